@@ -1,0 +1,3 @@
+pub mod Fermat
+mod Barrett
+mod Remainders

@@ -1,0 +1,6 @@
+pub mod Grid
+pub mod Buffer
+pub mod Reduced
+pub mod Kernel
+pub mod Summands
+pub mod Made

@@ -1,0 +1,63 @@
+// Matrices over prime fields: one flat buffer in the code, the list of the rows in contracts.
+#![tactic(auto)]
+
+ghost use Rattle.std.specs.Prelude.{◌≡◌};
+
+mod build;
+mod kernels;
+mod matrix;
+
+pub use matrix::Matrix;
+use std::alloc::AllocError;
+use thiserror::Error;
+
+/// A matrix would have more than 2,048 rows or columns, or more than 1,048,576 cells: its size.
+#[derive(Debug, Clone, Copy, PartialEq, Eq, Error)]
+#[error("a matrix of {rows} rows and {cols} columns is past the limits")]
+pub struct TooLarge {
+    pub rows: u32,
+    pub cols: u32,
+}
+
+/// Memory ran out.
+#[derive(Debug, Clone, Copy, PartialEq, Eq, Error)]
+#[error("out of memory")]
+pub struct NoMemory;
+
+/// Why a matrix is not made.
+#[derive(Debug, Clone, Copy, PartialEq, Eq, Error)]
+pub enum MatrixFault {
+    #[error("{0}")]
+    TooLarge(TooLarge),
+    #[error("out of memory")]
+    NoMemory,
+}
+
+impl From<AllocError> for NoMemory {
+    fn from(_e: AllocError) -> NoMemory {
+        NoMemory
+    }
+}
+
+impl From<NoMemory> for MatrixFault {
+    ghost use Rattle.cap_matrix.specs.declared.MatrixFault.TheVariants.{NoMemory};
+
+    ghost from_gives = { λ _ e. e ≡ NoMemory };
+
+    fn from(_e: NoMemory) -> MatrixFault {
+        MatrixFault::NoMemory
+    }
+}
+
+impl From<AllocError> for MatrixFault {
+    ghost use Rattle.cap_matrix.specs.declared.MatrixFault.TheVariants.{NoMemory};
+
+    ghost from_gives = { λ _ e. e ≡ NoMemory };
+
+    fn from(_e: AllocError) -> MatrixFault {
+        MatrixFault::NoMemory
+    }
+}
+
+#[cfg(test)]
+mod tests;

@@ -1,0 +1,13 @@
+use Rattle.std.proofs.Common.{◌≡◌, ◌≢◌, ◌+◌, ◌*◌, ◌%◌, length, get_or, ap, ◌∙◌, arith}
+use Rattle.cap_reduce.specs.Flat.{cell}
+use Rattle.cap_matrix.proofs.Writes.{row_so_far_more}
+use Rattle.cap_reduce.proofs.elimination.add_row.Goals as goal
+
+pub loop-c-preserved : goal.loop-c-preserved
+loop-c-preserved c =
+    row_so_far_more c.args.cols c.args.cells.now c.loop-c.cells c.args.to c.loop-c.c c.args.rows _
+    (λ q. (cell c.args.cells.now c.args.cols c.args.to q + c.args.factor * get_or c.args.source.now q 0) % c.args.p)
+    c.loop-c.invariant (omega arith) c.requires.to_within (omega arith)
+    (c.reduced.ensures
+    ∙ ap (λ y. (y + c.args.factor * get_or c.args.source.now c.loop-c.c 0) % c.args.p)
+    (c.loop-c.invariant.later c.loop-c.c (omega arith) (omega arith)))

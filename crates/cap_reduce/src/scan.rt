@@ -1,0 +1,75 @@
+// The leads of reduced rows, and transposes: what several calls do with a flat buffer.
+ghost use Rattle.std.specs.Prelude.{◌≡◌, ◌≢◌, ℕ, ◌+◌, ◌*◌, ◌<◌, ◌≤◌, length, slice_index};
+ghost use Rattle.cap_matrix.specs.Reduced.{IsReducedBy};
+ghost use Rattle.cap_matrix.specs.Buffer.{IsRowSoFar};
+ghost use Rattle.cap_reduce.specs.Flat.{cell};
+ghost use Rattle.cap_reduce.specs.NullTable.{IsScanned};
+
+/// Finds the leads of reduced rows: writes each column's row, or `rank` where it is no lead, and the columns that are no leads, in order.
+#[tactic(auto, using(std::proofs::lemmas::Nat::rows))]
+pub(crate) fn scan_leads(
+    cells: &[u16],
+    rank: usize,
+    cols: usize,
+    place: &mut [u16],
+    free: &mut [u16],
+)
+    requires size { rank * cols ≤ length cells.now }
+    requires narrow { rank ≤ 65535 }
+    requires places { length place.old ≡ cols }
+    requires frees { length free.old ≡ cols }
+    requires short { cols ≤ 65535 }
+    ensures { (p : ℕ) (lead : ℕ → ℕ) → IsReducedBy p rank cols (cell cells.now cols) lead
+        → IsScanned rank lead (λ j. slice_index place.new j) (λ j. slice_index free.new j) rank cols }
+{
+    let mut met = 0;
+    for c in 0..cols {
+        if met < rank && cells[met * cols + c] != 0 {
+            place[c] = met as u16;
+            met += 1;
+        } else {
+            place[c] = rank as u16;
+            free[c - met] = c as u16;
+        }
+    }
+}
+
+/// Writes a column of a matrix to the front of one row of a wider buffer.
+#[tactic(auto, using(std::proofs::lemmas::Nat::rows))]
+fn write_column_as_row(
+    out: &mut [u16],
+    width: usize,
+    cells: &[u16],
+    rows: usize,
+    cols: usize,
+    column: usize,
+)
+    requires size { length cells.now ≡ rows * cols }
+    requires out_size { length out.old ≡ cols * width }
+    requires room { rows ≤ width }
+    requires within { column < cols }
+    ensures { IsRowSoFar width out.old out.new column rows (λ i. cell cells.now cols i column) }
+{
+    for i in 0..rows {
+        out[column * width + i] = cells[i * cols + column];
+    }
+}
+
+/// Writes the transpose of a matrix to the front of the rows of a wider buffer.
+#[tactic(auto, using(std::proofs::lemmas::Nat::rows))]
+pub(crate) fn write_transpose(
+    out: &mut [u16],
+    width: usize,
+    cells: &[u16],
+    rows: usize,
+    cols: usize,
+)
+    requires size { length cells.now ≡ rows * cols }
+    requires out_size { length out.old ≡ cols * width }
+    requires room { rows ≤ width }
+    ensures { (j i : ℕ) → j < cols → i < rows → cell out.new width j i ≡ cell cells.now cols i j }
+{
+    for j in 0..cols {
+        write_column_as_row(out, width, cells, rows, cols, j);
+    }
+}

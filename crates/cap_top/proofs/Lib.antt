@@ -1,0 +1,6 @@
+mod Joined
+mod Pushed
+mod Scanned
+mod Values
+mod Judged
+mod Runs

@@ -1,0 +1,25 @@
+use Rattle.std.proofs.Common.{refl, sym, subst}
+use Rattle.std.specs.Prelude.{string_bytes}
+use Rattle.cap_top.specs.Run.{Outside, IsJudged}
+use Rattle.cap_top.proofs.Runs.{judged_calls, said_run, same_run}
+use Rattle.cap_top.proofs.plain.cap_plain.Goals as goal
+use Rattle.cap_top.proofs.plain.cap_plain.Goals.{in-Ok-answer_to, in-Err}
+
+pub returns-after-answer_to : goal.returns-after-answer_to
+returns-after-answer_to g c =
+    let all = c.in-Ok.ensures.bytes in
+    let before : Outside = record { left = g.S.Source.left c.args.source.now; read_faults = g.S.Source.faults c.args.source.now; written = g.K.Sink.written c.args.sink.now; write_faults = g.K.Sink.faults c.args.sink.now } in
+    let left = g.S.Source.left c.read_all.new.source in
+    let faults = g.S.Source.faults c.read_all.new.source in
+    elim c.match-answer_to.branch [
+      | in-Ok-answer_to w ↦
+          let judged = subst (λ bytes. IsJudged bytes w.in-Ok-answer_to.status (string_bytes w.in-Ok-answer_to.text)) c.deref.ensures.value w.in-Ok-answer_to.ensures in
+          let judged_text = subst (IsJudged c.in-Ok.bytes.items w.in-Ok-answer_to.status) (sym w.as_bytes.ensures.value) judged in
+          same_run g.K.Sink.written g.K.Sink.faults before left faults w.sink-is w.status-is (said_run _ _ _ _ _ (judged_calls _ _ _ _ _ judged_text all) w.say.ensures)
+      | in-Err w ↦ same_run g.K.Sink.written g.K.Sink.faults before left faults w.sink-is w.status-is (record { taken = record { bytes = c.in-Ok.bytes.items; taken = all.taken; are = tt }; quiet = (refl, refl) })
+    ]
+
+pub returns-in-Err-TooLong : goal.returns-in-Err-TooLong
+returns-in-Err-TooLong g c =
+    let r = rw c.in-Err-TooLong.field-0-is at c.in-Err-TooLong.ensures.bytes in
+    said_run _ _ _ _ _ (record { bytes = r.bytes; taken = r.taken; are = (r.are, refl) }) c.say-status.ensures

@@ -1,0 +1,6 @@
+pub mod Text
+pub mod Form
+pub mod Numbers
+pub mod Run
+pub mod Words
+pub mod Status

@@ -1,0 +1,110 @@
+-- What a run of the program has done, seen from outside.
+use Rattle.std.specs.Prelude.{◌≡◌, ℕ, ◌<◌, ◌≤◌, ◌⊎◌, List, length, Option, codes}
+use Rattle.cap_io.specs.Faults.{HasRisen}
+use Rattle.cap_io.specs.Reading.{ConsumesSome, ConsumesAll}
+use Rattle.cap_io.specs.Writing.{Adds, AddsFront}
+use Rattle.cap_top.specs.declared.outcome.Status.{Status}
+use Rattle.cap_top.specs.declared.outcome.Status.TheVariants.{Ok, Rejected, Usage, ReadFault, WriteFault, TooLong, BadScript, NoMemory}
+use Rattle.cap_top.specs.Form.{IsForm, IsAnswer}
+
+-- how many bytes a script may have
+abbrev pub byte_limit : ℕ
+byte_limit = 1048576
+
+-- a source and a sink: the bytes left and the bytes written, where they tell them, and how often each has failed
+pub record Outside : Type 0 where
+  pub left : Option (List ℕ)
+  pub read_faults : ℕ
+  pub written : Option (List ℕ)
+  pub write_faults : ℕ
+
+-- nothing was taken, and nothing was written
+abbrev pub TookNothing : Outside → Outside → Type 0
+TookNothing before after = (after.left ≡ before.left) × (after.read_faults ≡ before.read_faults)
+
+abbrev pub WroteNothing : Outside → Outside → Type 0
+WroteNothing before after = (after.written ≡ before.written) × (after.write_faults ≡ before.write_faults)
+
+-- the whole input was taken, and it is as P says
+pub record TookAll (before after : Outside) (P : List ℕ → Type 0) : Type 0 where
+  pub bytes : List ℕ
+  pub taken : ConsumesAll byte_limit before.left after.left bytes
+  pub are : P bytes
+
+-- the run read this input, which calls for this status and this text: the answer to a script; the refusal of what is no script; or of what is too long
+abbrev pub CallsFor : Outside → Outside → Status → List ℕ → Type 0
+CallsFor before after Ok text = TookAll before after (λ bytes. IsAnswer bytes text)
+CallsFor before after BadScript text = TookAll before after (λ bytes. (IsForm bytes → ⊥) × (text ≡ codes "bad script\n"))
+CallsFor before after TooLong text = ConsumesSome before.left after.left (λ bytes. (byte_limit < length bytes) × (text ≡ codes "too long\n"))
+CallsFor before after Rejected text = ⊥
+CallsFor before after Usage text = ⊥
+CallsFor before after ReadFault text = ⊥
+CallsFor before after WriteFault text = ⊥
+CallsFor before after NoMemory text = ⊥
+
+-- the same of the bytes of a whole input
+abbrev pub IsJudged : List ℕ → Status → List ℕ → Type 0
+IsJudged bytes Ok text = IsAnswer bytes text
+IsJudged bytes BadScript text = (IsForm bytes → ⊥) × (text ≡ codes "bad script\n")
+IsJudged bytes TooLong text = ⊥
+IsJudged bytes Rejected text = ⊥
+IsJudged bytes Usage text = ⊥
+IsJudged bytes ReadFault text = ⊥
+IsJudged bytes WriteFault text = ⊥
+IsJudged bytes NoMemory text = ⊥
+
+-- what the run called for was written whole
+pub record Wrote (before after : Outside) (status : Status) : Type 0 where
+  pub text : List ℕ
+  pub called_for : CallsFor before after status text
+  pub added : Adds before.written after.written text
+
+-- the sink failed when the front of what the run called for was written
+pub record WroteFront (before after : Outside) : Type 0 where
+  pub status : Status
+  pub text : List ℕ
+  pub called_for : CallsFor before after status text
+  pub added : AddsFront before.written after.written text
+  pub risen : HasRisen before.write_faults after.write_faults
+
+-- the text was written and this is the status; or the sink failed, and its front was
+abbrev pub IsSaid : Option (List ℕ) → ℕ → Option (List ℕ) → ℕ → Status → List ℕ → Status → Type 0
+IsSaid before faults_before after faults_after status text said = ((said ≡ status) × Adds before after text)
+    ⊎ ((said ≡ WriteFault) × AddsFront before after text × HasRisen faults_before faults_after)
+
+-- a fault of the source, before more than the limit was taken; and nothing was written
+pub record ReadFailed (before after : Outside) : Type 0 where
+  pub taken : ConsumesSome before.left after.left (λ bytes. length bytes ≤ byte_limit)
+  pub risen : HasRisen before.read_faults after.read_faults
+  pub quiet : WroteNothing before after
+
+-- want of memory: some bytes were taken, and nothing was written
+pub record RanOut (before after : Outside) : Type 0 where
+  pub taken : ConsumesSome before.left after.left (λ bytes. Unit {0})
+  pub quiet : WroteNothing before after
+
+-- what `cap plain` does, by its status
+abbrev pub IsPlainRun : Outside → Outside → Status → Type 0
+IsPlainRun before after Ok = Wrote before after Ok
+IsPlainRun before after BadScript = Wrote before after BadScript
+IsPlainRun before after TooLong = Wrote before after TooLong
+IsPlainRun before after WriteFault = WroteFront before after
+IsPlainRun before after ReadFault = ReadFailed before after
+IsPlainRun before after NoMemory = RanOut before after
+IsPlainRun before after Usage = ⊥
+IsPlainRun before after Rejected = ⊥
+
+-- the usage line
+abbrev pub usage_text : List ℕ
+usage_text = codes "usage: cap run | run --log | plain | plan | check | demo N\n"
+
+-- what the program does where the words are none of its lists: it writes the usage line and reads nothing
+abbrev pub IsUsageRun : Outside → Outside → Status → Type 0
+IsUsageRun before after Usage = TookNothing before after × Adds before.written after.written usage_text
+IsUsageRun before after WriteFault = TookNothing before after × AddsFront before.written after.written usage_text × HasRisen before.write_faults after.write_faults
+IsUsageRun before after Ok = ⊥
+IsUsageRun before after BadScript = ⊥
+IsUsageRun before after TooLong = ⊥
+IsUsageRun before after ReadFault = ⊥
+IsUsageRun before after NoMemory = ⊥
+IsUsageRun before after Rejected = ⊥

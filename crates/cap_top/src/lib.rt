@@ -1,0 +1,15 @@
+//! The top call: what the program does with its words, its input and its output.
+#![tactic(auto)]
+
+mod form;
+mod outcome;
+mod plain;
+mod program;
+mod text;
+
+pub use outcome::{Outcome, Status};
+pub use plain::cap_plain;
+pub use program::cap;
+
+#[cfg(test)]
+mod tests;

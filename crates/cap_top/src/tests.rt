@@ -1,0 +1,135 @@
+use super::*;
+use cap_io::{MemSink, MemSource, OpenGate, SureSink, SureSource};
+use std::alloc::Global;
+use std::process::Abort;
+use std::test::Fail;
+
+// The script of the first example: the kernel of a matrix of rank 1.
+const EXAMPLE: &str =
+    "category V vec 5\nregister V Kernel 20\nfinalise V\nobject V a = 2\nobject V b = 2\nlet f = V a -> b [1 2; 2 4]\nlet k = V Kernel f\n";
+
+const EXAMPLE_OUTPUT: &str =
+    "V: vec 5\nV registers Kernel 20\nV final\nV#1: 2\na = V#1\nV#2: 2\nb = V#2\nf = V#1 -> V#2 [1 2; 2 4]\nV#3: 1\nk = V#3 -> V#1 [1 2]\n";
+
+// `cap plain` on an input answers this status and writes this text, and so does `cap` on the word `plain`.
+fn answers(
+    rt: &impl Abort,
+    alloc: Global,
+    input: &str,
+    status: Status,
+    output: &str,
+) -> Result<(), Fail> {
+    let mut source = SureSource::new(input.as_bytes().to_vec(alloc)?);
+    let mut sink = SureSink::new(alloc)?;
+    let outcome = cap_plain(alloc, &mut source, &mut sink, &OpenGate);
+    assert_eq!(rt; outcome.status, status, "at {input}");
+    assert!(rt; sink.bytes() == output.as_bytes(), "at {input}");
+    let mut source = SureSource::new(input.as_bytes().to_vec(alloc)?);
+    let mut sink = SureSink::new(alloc)?;
+    let words = vec![in alloc; String::from_str(alloc, "plain")?]?;
+    let outcome = cap(alloc, &words, &mut source, &mut sink, &OpenGate);
+    assert_eq!(rt; outcome.status, status, "at {input}");
+    assert!(rt; sink.bytes() == output.as_bytes(), "at {input}");
+    Ok(())
+}
+
+#[test]
+fn kernel_of_a_rank_one_matrix(rt: HostRuntime) -> Result<(), Fail> {
+    answers(&rt, rt.alloc(), EXAMPLE, Status::Ok, EXAMPLE_OUTPUT)
+}
+
+#[test]
+fn kernel_of_a_matrix_without_rows(rt: HostRuntime) -> Result<(), Fail> {
+    let input =
+        "category V vec 5\nregister V Kernel 20\nfinalise V\nobject V a = 0\nobject V b = 3\nlet f = V a -> b []\nlet k = V Kernel f\n";
+    let output =
+        "V: vec 5\nV registers Kernel 20\nV final\nV#1: 0\na = V#1\nV#2: 3\nb = V#2\nf = V#1 -> V#2 []\nV#3: 0\nk = V#3 -> V#1 []\n";
+    answers(&rt, rt.alloc(), input, Status::Ok, output)
+}
+
+#[test]
+fn kernel_of_a_zero_matrix(rt: HostRuntime) -> Result<(), Fail> {
+    let input =
+        "category V vec 5\nregister V Kernel 20\nfinalise V\nobject V a = 3\nobject V b = 2\nlet f = V a -> b [0 0; 0 0; 0 0]\nlet k = V Kernel f\n";
+    let output =
+        "V: vec 5\nV registers Kernel 20\nV final\nV#1: 3\na = V#1\nV#2: 2\nb = V#2\nf = V#1 -> V#2 [0 0; 0 0; 0 0]\nV#3: 3\nk = V#3 -> V#1 [1 0 0; 0 1 0; 0 0 1]\n";
+    answers(&rt, rt.alloc(), input, Status::Ok, output)
+}
+
+#[test]
+fn other_texts_are_no_scripts(rt: HostRuntime) -> Result<(), Fail> {
+    let head = "category V vec 5\nregister V Kernel 20\nfinalise V\n";
+    let wrong = [
+        "",
+        "category V vec 5\n",
+        "object V a = 2\nobject V b = 2\nlet f = V a -> b [1 2; 2 5]\nlet k = V Kernel f\n",
+        "object V a = 02\nobject V b = 2\nlet f = V a -> b [1 2; 2 4]\nlet k = V Kernel f\n",
+        "object V a = 2\nobject V b = 2\nlet f = V a -> b [1 2 ; 2 4]\nlet k = V Kernel f\n",
+        "object V a = 2\nobject V b = 2\nlet f = V a -> b [1 2; 2 4]\nlet k = V Kernel f",
+        "object V a = 2\nobject V b = 2\nlet f = V a -> b [1 2; 2 4]\nlet k = V Kernel f\n\n",
+        "object V a = 2\nobject V b = 2\nlet f = V a -> b [1 2; 2]\nlet k = V Kernel f\n",
+        "object V a = 65\nobject V b = 0\nlet f = V a -> b []\nlet k = V Kernel f\n",
+    ];
+    for rest in wrong {
+        let alloc = rt.alloc();
+        let input = format!(in alloc; "{head}{rest}")?;
+        answers(
+            &rt,
+            alloc,
+            input.as_str(),
+            Status::BadScript,
+            "bad script\n",
+        )?;
+    }
+    Ok(())
+}
+
+#[test]
+fn no_words_give_the_usage_line(rt: HostRuntime) -> Result<(), Fail> {
+    let mut source = SureSource::new(EXAMPLE.as_bytes().to_vec(rt.alloc())?);
+    let mut sink = SureSink::new(rt.alloc())?;
+    let words = Vec::new(rt.alloc());
+    let outcome = cap(rt.alloc(), &words, &mut source, &mut sink, &OpenGate);
+    assert_eq!(rt; outcome.status.number(), 2);
+    assert!(rt;
+        sink.bytes() == b"usage: cap run | run --log | plain | plan | check | demo N\n".as_slice()
+    );
+    Ok(())
+}
+
+#[test]
+fn a_source_that_fails_at_once_gives_nothing(rt: HostRuntime) -> Result<(), Fail> {
+    let fail = vec![in rt.alloc(); 0u64]?;
+    let mut source = MemSource::new(EXAMPLE.as_bytes().to_vec(rt.alloc())?, 5, fail);
+    let mut sink = SureSink::new(rt.alloc())?;
+    let outcome = cap_plain(rt.alloc(), &mut source, &mut sink, &OpenGate);
+    assert_eq!(rt; outcome.status.number(), 3);
+    assert!(rt; sink.bytes().is_empty());
+    Ok(())
+}
+
+#[test]
+fn a_sink_that_fails_has_the_front_of_the_text(rt: HostRuntime) -> Result<(), Fail> {
+    let fail = vec![in rt.alloc(); 5u64]?;
+    let mut source = MemSource::new(
+        EXAMPLE.as_bytes().to_vec(rt.alloc())?,
+        7,
+        Vec::new(rt.alloc()),
+    );
+    let mut sink = MemSink::new(rt.alloc(), 1, 1000, fail)?;
+    let outcome = cap_plain(rt.alloc(), &mut source, &mut sink, &OpenGate);
+    assert_eq!(rt; outcome.status.number(), 4);
+    assert!(rt; sink.bytes() == b"V: ve".as_slice());
+    Ok(())
+}
+
+#[test]
+fn a_text_past_the_limit_is_too_long(rt: HostRuntime) -> Result<(), Fail> {
+    let blanks = vec![in rt.alloc(); b' '; 1_048_577]?;
+    let mut source = SureSource::new(blanks);
+    let mut sink = SureSink::new(rt.alloc())?;
+    let outcome = cap_plain(rt.alloc(), &mut source, &mut sink, &OpenGate);
+    assert_eq!(rt; outcome.status.number(), 5);
+    assert!(rt; sink.bytes() == b"too long\n".as_slice());
+    Ok(())
+}
