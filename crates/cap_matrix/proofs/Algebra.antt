@@ -1,5 +1,5 @@
 -- The laws of sums, multiples and products of matrices.
-use Rattle.std.proofs.Common.{◌≡◌, ℕ, ◌+◌, ◌-◌, ◌*◌, ◌%◌, ◌≤◌, refl, sym, ap, ◌∙◌, arith, add_assoc, add_comm}
+use Rattle.std.proofs.Common.{◌≡◌, ℕ, ◌+◌, ◌-◌, ◌*◌, ◌%◌, ◌≤◌, sym, ap, ◌∙◌, arith, add_assoc, add_comm}
 use Rattle.std.proofs.lemmas.Nat.{mul-mod_first, mul-mod_second}
 use Rattle.std.proofs.Math.Nat.{zero-mod, add-mod, add-mod-mod, mod-add-mod, mul-mod_right, mod-eq_of_lt, mul_assoc, mul_left_comm, mul-one, one-mul, mul-zero, zero-mul, mul-add, add-mul}
 use Rattle.cap_matrix.specs.Grid.{Grid, IsMatrixOf, entry, total, product_of, zero_of, unit_of, sum_of, scaled_of}

@@ -1,5 +1,5 @@
 -- Matrices above one another, beside one another, and blocks, and their products.
-use Rattle.std.proofs.Common.{◌≡◌, ℕ, zero, suc, ◌+◌, ◌-◌, ◌*◌, ◌/◌, ◌%◌, ◌<◌, ◌≤◌, cond, ltb, sym, ap, ◌∙◌, subst, arith, ⊎_elim}
+use Rattle.std.proofs.Common.{◌≡◌, ℕ, zero, suc, ◌+◌, ◌-◌, ◌*◌, ◌%◌, ◌<◌, ◌≤◌, cond, ltb, sym, ap, ◌∙◌, subst, arith, ⊎_elim}
 use Rattle.std.proofs.lemmas.Bool.{cases_lt, cond_below, cond_above, cond-true, cond-false, lt-ltb, le-ltb}
 use Rattle.std.proofs.Math.Nat.{add-mod, add-zero, zero-add, add_assoc}
 use Rattle.cap_matrix.specs.Grid.{Grid, IsMatrixOf, entry, total, matrix_by, product_of, sum_of, stacked_of, beside_of, block_of, transposed_of}
@@ -41,7 +41,7 @@ module _ {p a b c : ℕ} {f g : Grid} (F : IsMatrixOf p a c f) (G : IsMatrixOf p
       (λ i j lt below. ⊎_elim
       (λ low. subst (λ x. x < p) (cond_below i a (entry f.entries i j) (entry g.entries (i - a) j) low) (small-at F i j low below))
       (λ high. subst (λ x. x < p) (cond_above i a (entry f.entries i j) (entry g.entries (i - a) j) (entry g.entries (i - a) j) high (λ k. entry g.entries (i - a) j))
-        (small-at G (i - a) j (omega arith) below))
+      (small-at G (i - a) j (omega arith) below))
       (cases_lt i a)))
 
 -- f left of g
@@ -71,7 +71,7 @@ module _ {p a b c : ℕ} {f g : Grid} (F : IsMatrixOf p a b f) (G : IsMatrixOf p
       (λ i j lt below. ⊎_elim
       (λ left. subst (λ x. x < p) (cond_below j b (entry f.entries i j) (entry g.entries i (j - b)) left) (small-at F i j lt left))
       (λ right. subst (λ x. x < p) (cond_above j b (entry f.entries i j) (entry g.entries i (j - b)) (entry g.entries i (j - b)) right (λ k. entry g.entries i (j - b)))
-        (small-at G i (j - b) lt (omega arith)))
+      (small-at G i (j - b) lt (omega arith)))
       (cases_lt j b)))
 
 -- n rows and m columns of f, from row r and column s on
@@ -128,7 +128,7 @@ stacked-blocks {p} {c} {f} a b F =
     (λ i j lt below. ⊎_elim
     (λ low. stacked-low X Y i j low below ∙ block-at 0 0 a c F i j low below ∙ ap (λ x. entry f.entries x (0 + j)) (zero-add i) ∙ ap (λ x. entry f.entries i x) (zero-add j))
     (λ high. stacked-high X Y i j high lt below ∙ block-at a 0 b c F (i - a) j (omega arith) below
-      ∙ ap (λ x. entry f.entries x (0 + j)) (let e : a + (i - a) ≡ i = omega arith in e) ∙ ap (λ x. entry f.entries i x) (zero-add j))
+    ∙ ap (λ x. entry f.entries x (0 + j)) (let e : a + (i - a) ≡ i = omega arith in e) ∙ ap (λ x. entry f.entries i x) (zero-add j))
     (cases_lt i a))
 
 pub beside-blocks : {p a : ℕ} {f : Grid} (b c : ℕ) → IsMatrixOf p a (b + c) f → beside_of (block_of 0 0 a b f) (block_of 0 b a c f) ≡ f
@@ -139,7 +139,7 @@ beside-blocks {p} {a} {f} b c F =
     (λ i j lt below. ⊎_elim
     (λ left. beside-left X Y i j lt left ∙ block-at 0 0 a b F i j lt left ∙ ap (λ x. entry f.entries x (0 + j)) (zero-add i) ∙ ap (λ x. entry f.entries i x) (zero-add j))
     (λ right. beside-right X Y i j lt right below ∙ block-at 0 b a c F i (j - b) lt (omega arith)
-      ∙ ap (λ x. entry f.entries x (b + (j - b))) (zero-add i) ∙ ap (λ x. entry f.entries i x) (let e : b + (j - b) ≡ j = omega arith in e))
+    ∙ ap (λ x. entry f.entries x (b + (j - b))) (zero-add i) ∙ ap (λ x. entry f.entries i x) (let e : b + (j - b) ≡ j = omega arith in e))
     (cases_lt j b))
 
 -- products with matrices that were put together
@@ -152,13 +152,13 @@ stacked-product {p} {a} {b} {c} {d} {f} {g} {h} pos F G H =
     matrix_ext (product-matrix pos S H) (stacked-matrix FH GH)
     (λ i j lt below. product-at S H i j lt below ∙ ⊎_elim
     (λ low.
-      ap (λ s. s % p) (total-same c (λ k. entry (stacked_of f g).entries i k * entry h.entries k j) (λ k. entry f.entries i k * entry h.entries k j)
-        (λ k inner. ap (λ s. s * entry h.entries k j) (stacked-low F G i k low inner)))
-      ∙ sym (stacked-low FH GH i j low below ∙ product-at F H i j low below))
+    ap (λ s. s % p) (total-same c (λ k. entry (stacked_of f g).entries i k * entry h.entries k j) (λ k. entry f.entries i k * entry h.entries k j)
+    (λ k inner. ap (λ s. s * entry h.entries k j) (stacked-low F G i k low inner)))
+    ∙ sym (stacked-low FH GH i j low below ∙ product-at F H i j low below))
     (λ high.
-      ap (λ s. s % p) (total-same c (λ k. entry (stacked_of f g).entries i k * entry h.entries k j) (λ k. entry g.entries (i - a) k * entry h.entries k j)
-        (λ k inner. ap (λ s. s * entry h.entries k j) (stacked-high F G i k high lt inner)))
-      ∙ sym (stacked-high FH GH i j high lt below ∙ product-at G H (i - a) j (omega arith) below))
+    ap (λ s. s % p) (total-same c (λ k. entry (stacked_of f g).entries i k * entry h.entries k j) (λ k. entry g.entries (i - a) k * entry h.entries k j)
+    (λ k inner. ap (λ s. s * entry h.entries k j) (stacked-high F G i k high lt inner)))
+    ∙ sym (stacked-high FH GH i j high lt below ∙ product-at G H (i - a) j (omega arith) below))
     (cases_lt i a))
 
 pub product-beside : {p a b c d : ℕ} {f g h : Grid} → 1 ≤ p → IsMatrixOf p a b f → IsMatrixOf p b c g → IsMatrixOf p b d h
@@ -170,13 +170,13 @@ product-beside {p} {a} {b} {c} {d} {f} {g} {h} pos F G H =
     matrix_ext (product-matrix pos F S) (beside-matrix FG FH)
     (λ i j lt below. product-at F S i j lt below ∙ ⊎_elim
     (λ left.
-      ap (λ s. s % p) (total-same b (λ k. entry f.entries i k * entry (beside_of g h).entries k j) (λ k. entry f.entries i k * entry g.entries k j)
-        (λ k inner. ap (λ s. entry f.entries i k * s) (beside-left G H k j inner left)))
-      ∙ sym (beside-left FG FH i j lt left ∙ product-at F G i j lt left))
+    ap (λ s. s % p) (total-same b (λ k. entry f.entries i k * entry (beside_of g h).entries k j) (λ k. entry f.entries i k * entry g.entries k j)
+    (λ k inner. ap (λ s. entry f.entries i k * s) (beside-left G H k j inner left)))
+    ∙ sym (beside-left FG FH i j lt left ∙ product-at F G i j lt left))
     (λ right.
-      ap (λ s. s % p) (total-same b (λ k. entry f.entries i k * entry (beside_of g h).entries k j) (λ k. entry f.entries i k * entry h.entries k (j - c))
-        (λ k inner. ap (λ s. entry f.entries i k * s) (beside-right G H k j inner right below)))
-      ∙ sym (beside-right FG FH i j lt right below ∙ product-at F H i (j - c) lt (omega arith)))
+    ap (λ s. s % p) (total-same b (λ k. entry f.entries i k * entry (beside_of g h).entries k j) (λ k. entry f.entries i k * entry h.entries k (j - c))
+    (λ k inner. ap (λ s. entry f.entries i k * s) (beside-right G H k j inner right below)))
+    ∙ sym (beside-right FG FH i j lt right below ∙ product-at F H i (j - c) lt (omega arith)))
     (cases_lt j c))
 
 -- (f beside g)·(x above y) is f·x + g·y
@@ -189,22 +189,22 @@ beside-product-stacked {p} {a} {b} {c} {d} {f} {g} {x} {y} pos F G X Y =
     let GY = product-matrix pos G Y in
     matrix_ext (product-matrix pos S T) (sum-matrix (product_of g y) pos FX)
     (λ i j lt below.
-      let terms = λ (k : ℕ). entry (beside_of f g).entries i k * entry (stacked_of x y).entries k j in
-      let first = λ (k : ℕ). entry f.entries i k * entry x.entries k j in
-      let second = λ (k : ℕ). entry g.entries i k * entry y.entries k j in
-      let back : (k : ℕ) → b + k - b ≡ k = λ k. omega arith in
-      product-at S T i j lt below
-      ∙ ap (λ s. s % p) (total-append b c terms
-        ∙ ap (λ s. s + total c (λ k. terms (b + k))) (total-same b terms first
-          (λ k inner. ap (λ s. s * entry (stacked_of x y).entries k j) (beside-left F G i k lt inner)
-            ∙ ap (λ s. entry f.entries i k * s) (stacked-low X Y k j inner below)))
-        ∙ ap (λ s. total b first + s) (total-same c (λ k. terms (b + k)) second
-          (λ k inner. ap (λ s. s * entry (stacked_of x y).entries (b + k) j) (beside-right F G i (b + k) lt (omega arith) (omega arith) ∙ ap (λ w. entry g.entries i w) (back k))
-            ∙ ap (λ s. entry g.entries i k * s) (stacked-high X Y (b + k) j (omega arith) (omega arith) below ∙ ap (λ w. entry y.entries w j) (back k)))))
-      ∙ add-mod (total b first) (total c second) p
-      ∙ ap (λ s. (s + total c second % p) % p) (sym (product-at F X i j lt below))
-      ∙ ap (λ s. (entry (product_of f x).entries i j + s) % p) (sym (product-at G Y i j lt below))
-      ∙ sym (sum-at (product_of g y) FX i j lt below))
+    let terms = λ (k : ℕ). entry (beside_of f g).entries i k * entry (stacked_of x y).entries k j in
+    let first = λ (k : ℕ). entry f.entries i k * entry x.entries k j in
+    let second = λ (k : ℕ). entry g.entries i k * entry y.entries k j in
+    let back : (k : ℕ) → b + k - b ≡ k = λ k. omega arith in
+    product-at S T i j lt below
+    ∙ ap (λ s. s % p) (total-append b c terms
+    ∙ ap (λ s. s + total c (λ k. terms (b + k))) (total-same b terms first
+    (λ k inner. ap (λ s. s * entry (stacked_of x y).entries k j) (beside-left F G i k lt inner)
+    ∙ ap (λ s. entry f.entries i k * s) (stacked-low X Y k j inner below)))
+    ∙ ap (λ s. total b first + s) (total-same c (λ k. terms (b + k)) second
+    (λ k inner. ap (λ s. s * entry (stacked_of x y).entries (b + k) j) (beside-right F G i (b + k) lt (omega arith) (omega arith) ∙ ap (λ w. entry g.entries i w) (back k))
+    ∙ ap (λ s. entry g.entries i k * s) (stacked-high X Y (b + k) j (omega arith) (omega arith) below ∙ ap (λ w. entry y.entries w j) (back k)))))
+    ∙ add-mod (total b first) (total c second) p
+    ∙ ap (λ s. (s + total c second % p) % p) (sym (product-at F X i j lt below))
+    ∙ ap (λ s. (entry (product_of f x).entries i j + s) % p) (sym (product-at G Y i j lt below))
+    ∙ sym (sum-at (product_of g y) FX i j lt below))
 
 -- rows of a product, and columns of one
 pub block-product_rows : {p a b c : ℕ} {f g : Grid} (r n : ℕ) → 1 ≤ p → r + n ≤ a → IsMatrixOf p a b f → IsMatrixOf p b c g
@@ -215,8 +215,8 @@ block-product_rows {p} {a} {b} {c} {f} {g} r n pos fits F G =
     matrix_ext (block-matrix r 0 n c fits (omega arith) FG) (product-matrix pos R G)
     (λ i j lt below. block-at r 0 n c FG i j lt below ∙ product-at F G (r + i) (0 + j) (omega arith) (omega arith)
     ∙ ap (λ s. s % p) (total-same b (λ k. entry f.entries (r + i) k * entry g.entries k (0 + j)) (λ k. entry (block_of r 0 n b f).entries i k * entry g.entries k j)
-      (λ k inner. ap (λ s. entry f.entries (r + i) k * entry g.entries k s) (zero-add j)
-        ∙ ap (λ s. s * entry g.entries k j) (sym (block-at r 0 n b F i k lt inner ∙ ap (λ w. entry f.entries (r + i) w) (zero-add k)))))
+    (λ k inner. ap (λ s. entry f.entries (r + i) k * entry g.entries k s) (zero-add j)
+    ∙ ap (λ s. s * entry g.entries k j) (sym (block-at r 0 n b F i k lt inner ∙ ap (λ w. entry f.entries (r + i) w) (zero-add k)))))
     ∙ sym (product-at R G i j lt below))
 
 pub block-product_columns : {p a b c : ℕ} {f g : Grid} (s m : ℕ) → 1 ≤ p → s + m ≤ c → IsMatrixOf p a b f → IsMatrixOf p b c g
@@ -227,8 +227,8 @@ block-product_columns {p} {a} {b} {c} {f} {g} s m pos fits F G =
     matrix_ext (block-matrix 0 s a m (omega arith) fits FG) (product-matrix pos F R)
     (λ i j lt below. block-at 0 s a m FG i j lt below ∙ product-at F G (0 + i) (s + j) (omega arith) (omega arith)
     ∙ ap (λ s. s % p) (total-same b (λ k. entry f.entries (0 + i) k * entry g.entries k (s + j)) (λ k. entry f.entries i k * entry (block_of 0 s b m g).entries k j)
-      (λ k inner. ap (λ w. entry f.entries w k * entry g.entries k (s + j)) (zero-add i)
-        ∙ ap (λ w. entry f.entries i k * w) (sym (block-at 0 s b m G k j inner below ∙ ap (λ w. entry g.entries w (s + j)) (zero-add k)))))
+    (λ k inner. ap (λ w. entry f.entries w k * entry g.entries k (s + j)) (zero-add i)
+    ∙ ap (λ w. entry f.entries i k * w) (sym (block-at 0 s b m G k j inner below ∙ ap (λ w. entry g.entries w (s + j)) (zero-add k)))))
     ∙ sym (product-at F R i j lt below))
 
 -- transposes

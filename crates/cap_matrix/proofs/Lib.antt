@@ -10,3 +10,4 @@ pub mod Transpose
 pub mod Blocks
 pub mod Summands
 pub mod TwoSided
+mod Examples

@@ -138,15 +138,15 @@ module _ (p a b : ℕ) (big : 2 ≤ p) where
       matrix_ext (sum-matrix second one X) S
       (λ i j lt below. sum-at second X i j lt below ∙ ⊎_elim
       (λ low.
-        ap (λ s. (s + entry second.entries i j) % p) (first_out-product-low F i j low below ∙ mod-eq_of_lt (small-at F i j low below))
-        ∙ ap (λ s. (entry f.entries i j + s) % p) (second_out-product-low G i j low below)
-        ∙ ap (λ s. s % p) (add-zero (entry f.entries i j)) ∙ mod-eq_of_lt (small-at F i j low below) ∙ sym (stacked-low F G i j low below))
+      ap (λ s. (s + entry second.entries i j) % p) (first_out-product-low F i j low below ∙ mod-eq_of_lt (small-at F i j low below))
+      ∙ ap (λ s. (entry f.entries i j + s) % p) (second_out-product-low G i j low below)
+      ∙ ap (λ s. s % p) (add-zero (entry f.entries i j)) ∙ mod-eq_of_lt (small-at F i j low below) ∙ sym (stacked-low F G i j low below))
       (λ high.
-        let e : a + (i - a) ≡ i = omega arith in
-        let inner : i - a < b = omega arith in
-        ap (λ s. (s + entry second.entries i j) % p) (first_out-product-high F i j high lt below)
-        ∙ ap (λ s. (0 + s) % p) (ap (λ x. entry second.entries x j) (sym e) ∙ second_out-product-high G (i - a) j inner below ∙ mod-eq_of_lt (small-at G (i - a) j inner below))
-        ∙ ap (λ s. s % p) (zero-add (entry g.entries (i - a) j)) ∙ mod-eq_of_lt (small-at G (i - a) j inner below) ∙ sym (stacked-high F G i j high lt below))
+      let e : a + (i - a) ≡ i = omega arith in
+      let inner : i - a < b = omega arith in
+      ap (λ s. (s + entry second.entries i j) % p) (first_out-product-high F i j high lt below)
+      ∙ ap (λ s. (0 + s) % p) (ap (λ x. entry second.entries x j) (sym e) ∙ second_out-product-high G (i - a) j inner below ∙ mod-eq_of_lt (small-at G (i - a) j inner below))
+      ∙ ap (λ s. s % p) (zero-add (entry g.entries (i - a) j)) ∙ mod-eq_of_lt (small-at G (i - a) j inner below) ∙ sym (stacked-high F G i j high lt below))
       (cases_lt i a))
 
   pub summands-total : sum_of (product_of (first_out p a b) (first_in p a b)) (product_of (second_out p a b) (second_in p a b)) ≡ unit_of p (a + b)
@@ -154,11 +154,11 @@ module _ (p a b : ℕ) (big : 2 ≤ p) where
       let S = stacked-matrix first_in-matrix second_in-matrix in
       summands-stacked first_in-matrix second_in-matrix
       ∙ matrix_ext S (unit-matrix p (a + b) big)
-        (λ i j lt below. ⊎_elim
-        (λ low. stacked-low first_in-matrix second_in-matrix i j low below ∙ first_in-at i j low below ∙ sym (unit-at p (a + b) i j lt below))
-        (λ high. stacked-high first_in-matrix second_in-matrix i j high lt below ∙ second_in-at (i - a) j (omega arith) below
-          ∙ ap (λ x. delta x j) (let e : a + (i - a) ≡ i = omega arith in e) ∙ sym (unit-at p (a + b) i j lt below))
-        (cases_lt i a))
+      (λ i j lt below. ⊎_elim
+      (λ low. stacked-low first_in-matrix second_in-matrix i j low below ∙ first_in-at i j low below ∙ sym (unit-at p (a + b) i j lt below))
+      (λ high. stacked-high first_in-matrix second_in-matrix i j high lt below ∙ second_in-at (i - a) j (omega arith) below
+      ∙ ap (λ x. delta x j) (let e : a + (i - a) ≡ i = omega arith in e) ∙ sym (unit-at p (a + b) i j lt below))
+      (cases_lt i a))
 
   -- what goes in first picks the first rows, and what comes out last the first columns; likewise the second ones
   pub first_in-product : {c : ℕ} {g : Grid} → IsMatrixOf p (a + b) c g → product_of (first_in p a b) g ≡ block_of 0 0 a c g
@@ -198,25 +198,25 @@ module _ (p a b : ℕ) (big : 2 ≤ p) where
       ∙ ap (λ s. (total a (λ k. entry f.entries i k * entry (first_in p a b).entries k j) % p + s) % p) (product-at G second_in-matrix i j lt below)
       ∙ ⊎_elim
       (λ left.
-        ap (λ s. (s % p + total b (λ k. entry g.entries i k * entry (second_in p a b).entries k j) % p) % p)
-          (pick-right a j (λ k. entry (first_in p a b).entries k j) (λ k. entry f.entries i k) left (λ k inner. first_in-at k j inner below))
-        ∙ ap (λ s. (entry f.entries i j % p + s % p) % p)
-          (total-zeros b (λ k. entry g.entries i k * entry (second_in p a b).entries k j)
-            (λ k inner. ap (λ s. entry g.entries i k * s) (second_in-at k j inner below ∙ delta-other (a + k) j (omega arith)) ∙ mul-zero (entry g.entries i k)))
-        ∙ ap (λ s. (s + 0 % p) % p) (mod-eq_of_lt (small-at F i j lt left))
-        ∙ ap (λ s. (entry f.entries i j + s) % p) (zero-mod p)
-        ∙ ap (λ s. s % p) (add-zero (entry f.entries i j)) ∙ mod-eq_of_lt (small-at F i j lt left) ∙ sym (beside-left F G i j lt left))
+      ap (λ s. (s % p + total b (λ k. entry g.entries i k * entry (second_in p a b).entries k j) % p) % p)
+      (pick-right a j (λ k. entry (first_in p a b).entries k j) (λ k. entry f.entries i k) left (λ k inner. first_in-at k j inner below))
+      ∙ ap (λ s. (entry f.entries i j % p + s % p) % p)
+      (total-zeros b (λ k. entry g.entries i k * entry (second_in p a b).entries k j)
+      (λ k inner. ap (λ s. entry g.entries i k * s) (second_in-at k j inner below ∙ delta-other (a + k) j (omega arith)) ∙ mul-zero (entry g.entries i k)))
+      ∙ ap (λ s. (s + 0 % p) % p) (mod-eq_of_lt (small-at F i j lt left))
+      ∙ ap (λ s. (entry f.entries i j + s) % p) (zero-mod p)
+      ∙ ap (λ s. s % p) (add-zero (entry f.entries i j)) ∙ mod-eq_of_lt (small-at F i j lt left) ∙ sym (beside-left F G i j lt left))
       (λ right.
-        let e : a + (j - a) ≡ j = omega arith in
-        let inner : j - a < b = omega arith in
-        ap (λ s. (s % p + total b (λ k. entry g.entries i k * entry (second_in p a b).entries k j) % p) % p)
-          (total-zeros a (λ k. entry f.entries i k * entry (first_in p a b).entries k j)
-            (λ k inner. ap (λ s. entry f.entries i k * s) (first_in-at k j inner below ∙ delta-other k j (omega arith)) ∙ mul-zero (entry f.entries i k)))
-        ∙ ap (λ s. (s + total b (λ k. entry g.entries i k * entry (second_in p a b).entries k j) % p) % p) (zero-mod p)
-        ∙ ap (λ s. s % p) (zero-add (total b (λ k. entry g.entries i k * entry (second_in p a b).entries k j) % p))
-        ∙ ap (λ s. s % p % p)
-          (pick-right b (j - a) (λ k. entry (second_in p a b).entries k j) (λ k. entry g.entries i k) inner
-            (λ k inner. second_in-at k j inner below ∙ ap (λ y. delta (a + k) y) (sym e) ∙ delta-shift a k (j - a)))
-        ∙ ap (λ s. s % p) (mod-eq_of_lt (small-at G i (j - a) lt inner)) ∙ mod-eq_of_lt (small-at G i (j - a) lt inner)
-        ∙ sym (beside-right F G i j lt right below))
+      let e : a + (j - a) ≡ j = omega arith in
+      let inner : j - a < b = omega arith in
+      ap (λ s. (s % p + total b (λ k. entry g.entries i k * entry (second_in p a b).entries k j) % p) % p)
+      (total-zeros a (λ k. entry f.entries i k * entry (first_in p a b).entries k j)
+      (λ k inner. ap (λ s. entry f.entries i k * s) (first_in-at k j inner below ∙ delta-other k j (omega arith)) ∙ mul-zero (entry f.entries i k)))
+      ∙ ap (λ s. (s + total b (λ k. entry g.entries i k * entry (second_in p a b).entries k j) % p) % p) (zero-mod p)
+      ∙ ap (λ s. s % p) (zero-add (total b (λ k. entry g.entries i k * entry (second_in p a b).entries k j) % p))
+      ∙ ap (λ s. s % p % p)
+      (pick-right b (j - a) (λ k. entry (second_in p a b).entries k j) (λ k. entry g.entries i k) inner
+      (λ k inner. second_in-at k j inner below ∙ ap (λ y. delta (a + k) y) (sym e) ∙ delta-shift a k (j - a)))
+      ∙ ap (λ s. s % p) (mod-eq_of_lt (small-at G i (j - a) lt inner)) ∙ mod-eq_of_lt (small-at G i (j - a) lt inner)
+      ∙ sym (beside-right F G i j lt right below))
       (cases_lt j a))

@@ -1,10 +1,10 @@
 -- Transposes, which turn products round.
-use Rattle.std.proofs.Common.{◌≡◌, ℕ, ◌+◌, ◌*◌, ◌%◌, ◌<◌, ◌≤◌, sym, ap, ◌∙◌, arith, ⊎_elim}
+use Rattle.std.proofs.Common.{◌≡◌, ℕ, ◌+◌, ◌*◌, ◌%◌, ◌<◌, ◌≤◌, sym, ap, ◌∙◌, ⊎_elim}
 use Rattle.std.proofs.Math.Nat.{mul_comm}
 use Rattle.std.proofs.lemmas.Bool.{cases_eq}
 use Rattle.cap_matrix.specs.Grid.{Grid, IsMatrixOf, entry, matrix_by, product_of, sum_of, scaled_of, zero_of, unit_of, transposed_of}
 use Rattle.cap_matrix.proofs.Sums.{total-same}
-use Rattle.cap_matrix.proofs.Entries.{matrix_ext, matrix_by-at, matrix_by-is, matrix-same, small-at, product-matrix, sum-matrix, scaled-matrix, zero-matrix, unit-matrix, product-at, sum-at, scaled-at, zero-at, unit-at, delta, delta-same, delta-other}
+use Rattle.cap_matrix.proofs.Entries.{matrix_ext, matrix_by-at, matrix_by-is, matrix-same, small-at, product-matrix, sum-matrix, scaled-matrix, zero-matrix, unit-matrix, product-at, sum-at, scaled-at, zero-at, unit-at, delta, delta-other}
 
 pub transposed-is : {p a b : ℕ} {f : Grid} → IsMatrixOf p a b f → transposed_of f ≡ matrix_by p b a (λ i j. entry f.entries j i)
 transposed-is {p} {a} {b} {f} F =

@@ -1,7 +1,7 @@
 -- Sums over a flat table, Kronecker products, and the product of three matrices as one row times a matrix.
-use Rattle.std.proofs.Common.{◌≡◌, ℕ, zero, suc, ◌+◌, ◌*◌, ◌/◌, ◌%◌, ◌<◌, ◌≤◌, refl, sym, ap, ◌∙◌, arith}
-use Rattle.std.proofs.lemmas.Nat.{mul-mod_second, mul-mod_first, mul-mod, mod_below, div_below, mul-add-lt, div-mul-add, mod-mul-add}
-use Rattle.std.proofs.Math.Nat.{mod-lt, mod-mod, div-add-mod', mul_left_comm, mul_assoc, mul_comm, zero-mul}
+use Rattle.std.proofs.Common.{◌≡◌, ℕ, zero, suc, ◌+◌, ◌*◌, ◌/◌, ◌%◌, ◌<◌, ◌≤◌, sym, ap, ◌∙◌, arith}
+use Rattle.std.proofs.lemmas.Nat.{mul-mod_second, mul-mod, mod_below, div_below, div-mul-add, mod-mul-add}
+use Rattle.std.proofs.Math.Nat.{mod-lt, mul_left_comm, mul_assoc, zero-mul}
 use Rattle.cap_matrix.specs.Grid.{Grid, IsMatrixOf, entry, total, matrix_by, product_of, transposed_of, kron_of}
 use Rattle.cap_matrix.proofs.Sums.{total-same, total-scale, total-scale_right, total-mod, times_assoc}
 use Rattle.cap_matrix.proofs.Writes.{some_below}
@@ -43,7 +43,7 @@ kron-at {p} {a} {b} {c} {d} {f} {g} F G i j lt below =
 -- entry (i, j) of l·x·r is a sum over the places of x
 pub three-product-at : {p m a b n : ℕ} {l x r : Grid} → 1 ≤ p → IsMatrixOf p m a l → IsMatrixOf p a b x → IsMatrixOf p b n r → (i j : ℕ) → i < m → j < n
     → entry (product_of (product_of l x) r).entries i j
-      ≡ total (a * b) (λ k. entry x.entries (k / b) (k % b) * (entry l.entries i (k / b) * entry r.entries (k % b) j)) % p
+    ≡ total (a * b) (λ k. entry x.entries (k / b) (k % b) * (entry l.entries i (k / b) * entry r.entries (k % b) j)) % p
 three-product-at {p} {m} {a} {b} {n} {l} {x} {r} pos L X R i j lt below =
     let e = λ (g : Grid) (u v : ℕ). entry g.entries u v in
     product-at (product-matrix pos L X) R i j lt below
@@ -84,24 +84,24 @@ flat_row-product {p} {m} {a} {b} {n} {l} {x} {r} pos L X R =
     let LXR = product-matrix pos (product-matrix pos L X) R in
     matrix_ext (flat_row-matrix LXR) (product-matrix pos FX K)
     (λ i q lt below.
-      let some = some_below q m n below in
-      let row = div_below q n m some below in
-      let column = mod_below q n some in
-      let terms = λ (k : ℕ). entry x.entries (k / b) (k % b) * (entry l.entries (q / n) (k / b) * entry r.entries (k % b) (q % n)) in
-      let wanted = λ (k : ℕ). entry (flat_row x).entries i k * entry (kron_of (transposed_of l) r).entries k q in
-      flat_row-at LXR i q lt below
-      ∙ three-product-at pos L X R (q / n) (q % n) row column
-      ∙ total-mod p (a * b) terms wanted
-        (λ k inner.
-          let inside = some_below k a b inner in
-          let high = div_below k b a inside inner in
-          let low = mod_below k b inside in
-          let u = entry x.entries (k / b) (k % b) in
-          let v = entry l.entries (q / n) (k / b) * entry r.entries (k % b) (q % n) in
-          sym (mul-mod_second u v p)
-          ∙ ap (λ s. u * s % p) (ap (λ s. s * entry r.entries (k % b) (q % n) % p) (sym (transposed-at L (k / b) (q / n) high row)) ∙ sym (kron-at TL R k q inner below))
-          ∙ ap (λ s. s * entry (kron_of (transposed_of l) r).entries k q % p) (sym (flat_row-at X i k lt inner)))
-      ∙ sym (product-at FX K i q lt below))
+    let some = some_below q m n below in
+    let row = div_below q n m some below in
+    let column = mod_below q n some in
+    let terms = λ (k : ℕ). entry x.entries (k / b) (k % b) * (entry l.entries (q / n) (k / b) * entry r.entries (k % b) (q % n)) in
+    let wanted = λ (k : ℕ). entry (flat_row x).entries i k * entry (kron_of (transposed_of l) r).entries k q in
+    flat_row-at LXR i q lt below
+    ∙ three-product-at pos L X R (q / n) (q % n) row column
+    ∙ total-mod p (a * b) terms wanted
+    (λ k inner.
+    let inside = some_below k a b inner in
+    let high = div_below k b a inside inner in
+    let low = mod_below k b inside in
+    let u = entry x.entries (k / b) (k % b) in
+    let v = entry l.entries (q / n) (k / b) * entry r.entries (k % b) (q % n) in
+    sym (mul-mod_second u v p)
+    ∙ ap (λ s. u * s % p) (ap (λ s. s * entry r.entries (k % b) (q % n) % p) (sym (transposed-at L (k / b) (q / n) high row)) ∙ sym (kron-at TL R k q inner below))
+    ∙ ap (λ s. s * entry (kron_of (transposed_of l) r).entries k q % p) (sym (flat_row-at X i k lt inner)))
+    ∙ sym (product-at FX K i q lt below))
 
 -- (f ⊗ g)·(h ⊗ k) is (f·h) ⊗ (g·k)
 pub kron-product : {p a b c d m n : ℕ} {f g h k : Grid} → 1 ≤ p → IsMatrixOf p a b f → IsMatrixOf p c d g → IsMatrixOf p b m h → IsMatrixOf p d n k
@@ -113,31 +113,31 @@ kron-product {p} {a} {b} {c} {d} {m} {n} {f} {g} {h} {k} pos F G H K =
     let GK = product-matrix pos G K in
     matrix_ext (product-matrix pos FG HK) (kron-matrix pos FH GK)
     (λ i j lt below.
-      let rows = some_below i a c lt in
-      let columns = some_below j m n below in
-      let i1 = div_below i c a rows lt in
-      let i2 = mod_below i c rows in
-      let j1 = div_below j n m columns below in
-      let j2 = mod_below j n columns in
-      let u = λ (s : ℕ). entry f.entries (i / c) s * entry h.entries s (j / n) in
-      let v = λ (t : ℕ). entry g.entries (i % c) t * entry k.entries t (j % n) in
-      let terms = λ (q : ℕ). entry (kron_of f g).entries i q * entry (kron_of h k).entries q j in
-      product-at FG HK i j lt below
-      ∙ total-mod p (b * d) terms (λ q. u (q / d) * v (q % d))
-        (λ q inner.
-          ap (λ s. s * entry (kron_of h k).entries q j % p) (kron-at F G i q lt inner)
-          ∙ ap (λ s. (entry f.entries (i / c) (q / d) * entry g.entries (i % c) (q % d) % p) * s % p) (kron-at H K q j inner below)
-          ∙ sym (mul-mod (entry f.entries (i / c) (q / d) * entry g.entries (i % c) (q % d)) (entry h.entries (q / d) (j / n) * entry k.entries (q % d) (j % n)) p)
-          ∙ ap (λ s. s % p) (middle (entry f.entries (i / c) (q / d)) (entry g.entries (i % c) (q % d)) (entry h.entries (q / d) (j / n)) (entry k.entries (q % d) (j % n))))
-      ∙ ap (λ s. s % p) (total-flat b d (λ s t. u s * v t)
-        ∙ total-same b (λ s. total d (λ t. u s * v t)) (λ s. u s * total d v) (λ s inner. total-scale d (u s) v)
-        ∙ total-scale_right b (total d v) u)
-      ∙ mul-mod (total b u) (total d v) p
-      ∙ ap (λ s. s * (total d v % p) % p) (sym (product-at F H (i / c) (j / n) i1 j1))
-      ∙ ap (λ s. entry (product_of f h).entries (i / c) (j / n) * s % p) (sym (product-at G K (i % c) (j % n) i2 j2))
-      ∙ sym (kron-at FH GK i j lt below)) where
-    middle : (x y z w : ℕ) → x * y * (z * w) ≡ x * z * (y * w)
-    middle x y z w = mul_assoc x y (z * w) ∙ ap (λ s. x * s) (mul_left_comm y z w) ∙ sym (mul_assoc x z (y * w))
+    let rows = some_below i a c lt in
+    let columns = some_below j m n below in
+    let i1 = div_below i c a rows lt in
+    let i2 = mod_below i c rows in
+    let j1 = div_below j n m columns below in
+    let j2 = mod_below j n columns in
+    let u = λ (s : ℕ). entry f.entries (i / c) s * entry h.entries s (j / n) in
+    let v = λ (t : ℕ). entry g.entries (i % c) t * entry k.entries t (j % n) in
+    let terms = λ (q : ℕ). entry (kron_of f g).entries i q * entry (kron_of h k).entries q j in
+    product-at FG HK i j lt below
+    ∙ total-mod p (b * d) terms (λ q. u (q / d) * v (q % d))
+    (λ q inner.
+    ap (λ s. s * entry (kron_of h k).entries q j % p) (kron-at F G i q lt inner)
+    ∙ ap (λ s. (entry f.entries (i / c) (q / d) * entry g.entries (i % c) (q % d) % p) * s % p) (kron-at H K q j inner below)
+    ∙ sym (mul-mod (entry f.entries (i / c) (q / d) * entry g.entries (i % c) (q % d)) (entry h.entries (q / d) (j / n) * entry k.entries (q % d) (j % n)) p)
+    ∙ ap (λ s. s % p) (middle (entry f.entries (i / c) (q / d)) (entry g.entries (i % c) (q % d)) (entry h.entries (q / d) (j / n)) (entry k.entries (q % d) (j % n))))
+    ∙ ap (λ s. s % p) (total-flat b d (λ s t. u s * v t)
+    ∙ total-same b (λ s. total d (λ t. u s * v t)) (λ s. u s * total d v) (λ s inner. total-scale d (u s) v)
+    ∙ total-scale_right b (total d v) u)
+    ∙ mul-mod (total b u) (total d v) p
+    ∙ ap (λ s. s * (total d v % p) % p) (sym (product-at F H (i / c) (j / n) i1 j1))
+    ∙ ap (λ s. entry (product_of f h).entries (i / c) (j / n) * s % p) (sym (product-at G K (i % c) (j % n) i2 j2))
+    ∙ sym (kron-at FH GK i j lt below)) where
+      middle : (x y z w : ℕ) → x * y * (z * w) ≡ x * z * (y * w)
+      middle x y z w = mul_assoc x y (z * w) ∙ ap (λ s. x * s) (mul_left_comm y z w) ∙ sym (mul_assoc x z (y * w))
 
 -- the transpose of a Kronecker product
 pub transposed-kron : {p a b c d : ℕ} {f g : Grid} → 1 ≤ p → IsMatrixOf p a b f → IsMatrixOf p c d g
@@ -148,9 +148,9 @@ transposed-kron {p} {a} {b} {c} {d} {f} {g} pos F G =
     let TG = transposed-matrix G in
     matrix_ext (transposed-matrix FG) (kron-matrix pos TF TG)
     (λ i j lt below.
-      let rows = some_below i b d lt in
-      let columns = some_below j a c below in
-      transposed-at FG i j lt below ∙ kron-at F G j i below lt
-      ∙ ap (λ s. s * entry g.entries (j % c) (i % d) % p) (sym (transposed-at F (i / d) (j / c) (div_below i d b rows lt) (div_below j c a columns below)))
-      ∙ ap (λ s. entry (transposed_of f).entries (i / d) (j / c) * s % p) (sym (transposed-at G (i % d) (j % c) (mod_below i d rows) (mod_below j c columns)))
-      ∙ sym (kron-at TF TG i j lt below))
+    let rows = some_below i b d lt in
+    let columns = some_below j a c below in
+    transposed-at FG i j lt below ∙ kron-at F G j i below lt
+    ∙ ap (λ s. s * entry g.entries (j % c) (i % d) % p) (sym (transposed-at F (i / d) (j / c) (div_below i d b rows lt) (div_below j c a columns below)))
+    ∙ ap (λ s. entry (transposed_of f).entries (i / d) (j / c) * s % p) (sym (transposed-at G (i % d) (j % c) (mod_below i d rows) (mod_below j c columns)))
+    ∙ sym (kron-at TF TG i j lt below))

@@ -3,6 +3,7 @@ ghost use Rattle.std.specs.Prelude.{◌≡◌, ℕ, ◌+◌, ◌*◌, ◌<◌, �
 ghost use Rattle.cap_matrix.specs.Grid.{fits_limits, zero_of, unit_of, product_of, sum_of, scaled_of, transposed_of, stacked_of, beside_of, block_of, kron_of};
 ghost use Rattle.cap_matrix.specs.Made.{IsMade, IsFault};
 
+use crate::kernels::Shape;
 use crate::{Matrix, MatrixFault, NoMemory, TooLarge, kernels};
 use cap_field::Field;
 use std::alloc::Global;
@@ -37,7 +38,7 @@ fn room(alloc: Global, rows: u32, cols: u32) -> Result<Vec<u16>, MatrixFault>
 }
 
 impl Matrix {
-    /// The zero matrix.
+    /// The zero matrix with `rows` rows and `cols` columns; past the limits `TooLarge` with that size.
     pub fn zero(alloc: Global, field: Field, rows: u32, cols: u32) -> Result<Matrix, MatrixFault>
         ensures { IsMade result (zero_of field rows cols) }
     {
@@ -45,7 +46,7 @@ impl Matrix {
         Ok(Matrix::from_cells(field, rows, cols, cells))
     }
 
-    /// The identity with `n` rows and columns.
+    /// The identity with `n` rows and columns; past the limits `TooLarge` with that size.
     pub fn identity(alloc: Global, field: Field, n: u32) -> Result<Matrix, MatrixFault>
         ensures { IsMade result (unit_of field n) }
     {
@@ -54,7 +55,7 @@ impl Matrix {
         Ok(Matrix::from_cells(field, n, n, cells))
     }
 
-    /// An equal matrix.
+    /// An equal matrix in memory of its own.
     pub fn copy(&self, alloc: Global) -> Result<Matrix, NoMemory>
         ensures { IfOk result (λ m. m ≡ self.now) }
     {
@@ -62,7 +63,8 @@ impl Matrix {
         Ok(Matrix::from_cells(self.field(), self.rows(), self.cols(), cells))
     }
 
-    /// The matrix product.
+    /// The matrix product with `b`, which has as many rows as this matrix has columns.
+    /// `TooLarge` names the size of a product past the limits.
     pub fn product(&self, alloc: Global, b: &Matrix) -> Result<Matrix, MatrixFault>
         requires field { self.now.prime ≡ b.now.prime }
         requires meet { self.now.column_count ≡ b.now.row_count }
@@ -76,16 +78,18 @@ impl Matrix {
             &mut cells,
             &mut space[..cols as usize],
             left,
+            Shape {
+                rows: rows as usize,
+                cols: inner as usize,
+            },
             right,
-            rows as usize,
-            inner as usize,
             cols as usize,
             field.prime(),
         );
         Ok(Matrix::from_cells(field, rows, cols, cells))
     }
 
-    /// The sum of two matrices of one size.
+    /// The sum with a matrix of the same size, entry by entry.
     pub fn sum(&self, alloc: Global, b: &Matrix) -> Result<Matrix, NoMemory>
         requires field { self.now.prime ≡ b.now.prime }
         requires rows { self.now.row_count ≡ b.now.row_count }
@@ -99,7 +103,7 @@ impl Matrix {
         Ok(Matrix::from_cells(field, rows, cols, cells))
     }
 
-    /// The multiple by a residue.
+    /// The multiple by the residue `n`, entry by entry.
     pub fn scale(&self, alloc: Global, n: u16) -> Result<Matrix, NoMemory>
         requires { n < self.now.prime }
         ensures { IfOk result (λ m. m ≡ scaled_of n self.now) }
@@ -113,6 +117,7 @@ impl Matrix {
     }
 
     /// The rows of this matrix above those of another with as many columns.
+    /// `TooLarge` names the size of a result past the limits.
     pub fn stack(&self, alloc: Global, below: &Matrix) -> Result<Matrix, MatrixFault>
         requires field { self.now.prime ≡ below.now.prime }
         requires columns { self.now.column_count ≡ below.now.column_count }
@@ -126,6 +131,7 @@ impl Matrix {
     }
 
     /// The columns of this matrix left of those of another with as many rows.
+    /// `TooLarge` names the size of a result past the limits.
     pub fn beside(&self, alloc: Global, right: &Matrix) -> Result<Matrix, MatrixFault>
         requires field { self.now.prime ≡ right.now.prime }
         requires rows { self.now.row_count ≡ right.now.row_count }
@@ -145,7 +151,7 @@ impl Matrix {
         Ok(Matrix::from_cells(field, rows, first + second, cells))
     }
 
-    /// Rows for columns.
+    /// The transpose: row i is column i of this matrix.
     pub fn transpose(&self, alloc: Global) -> Result<Matrix, NoMemory>
         ensures { IfOk result (λ m. m ≡ transposed_of self.now) }
     {
@@ -174,18 +180,23 @@ impl Matrix {
         let mut cells = zeros(alloc, rows, cols)?;
         kernels::copy_block(
             &mut cells,
+            Shape {
+                rows: rows as usize,
+                cols: cols as usize,
+            },
             from,
-            height as usize,
-            width as usize,
+            Shape {
+                rows: height as usize,
+                cols: width as usize,
+            },
             row as usize,
             col as usize,
-            rows as usize,
-            cols as usize,
         );
         Ok(Matrix::from_cells(field, rows, cols, cells))
     }
 
     /// The Kronecker product: for each entry of this matrix the multiple of `b` by it, as a block.
+    /// `TooLarge` names the size of a product past the limits.
     pub fn kron(&self, alloc: Global, b: &Matrix) -> Result<Matrix, MatrixFault>
         requires { self.now.prime ≡ b.now.prime }
         ensures { IsMade result (kron_of self.now b.now) }
@@ -198,11 +209,15 @@ impl Matrix {
         kernels::kron(
             &mut cells,
             outer,
-            height as usize,
-            width as usize,
+            Shape {
+                rows: height as usize,
+                cols: width as usize,
+            },
             inner,
-            rows as usize,
-            cols as usize,
+            Shape {
+                rows: rows as usize,
+                cols: cols as usize,
+            },
             p as u16,
             (65536 / p) as u16,
         );

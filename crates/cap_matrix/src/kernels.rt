@@ -4,6 +4,13 @@ ghost use Rattle.cap_matrix.specs.Grid.{total};
 
 use cap_field::reduced;
 
+/// The row and column counts of a flat buffer.
+#[derive(Clone, Copy)]
+pub(crate) struct Shape {
+    pub(crate) rows: usize,
+    pub(crate) cols: usize,
+}
+
 /// Adds a multiple of the cells from `at` on to sums.
 fn add_multiple(sums: &mut [u32], cells: &[u16], at: usize, factor: u32)
     requires within { at + length sums.old ≤ length cells.now }
@@ -51,33 +58,32 @@ fn store_row(out: &mut [u16], rows: usize, cols: usize, row: usize, sums: &[u32]
     }
 }
 
-/// The product of two flat buffers, row by row.
+/// The product of two flat buffers, row by row, with space for the sums of one row.
 #[tactic(auto, using(std::proofs::lemmas::Nat::rows))]
 pub(crate) fn multiply(
     out: &mut [u16],
     sums: &mut [u32],
     a: &[u16],
+    shape: Shape,
     b: &[u16],
-    rows: usize,
-    inner: usize,
     cols: usize,
     p: u32,
 )
-    requires size { length out.old ≡ rows * cols }
-    requires left { length a.now ≡ rows * inner }
-    requires right { length b.now ≡ inner * cols }
-    requires short { inner ≤ 2048 }
+    requires size { length out.old ≡ shape.rows * cols }
+    requires left { length a.now ≡ shape.rows * shape.cols }
+    requires right { length b.now ≡ shape.cols * cols }
+    requires short { shape.cols ≤ 2048 }
     requires width { length sums.old ≡ cols }
     requires low { 2 ≤ p }
     requires high { p ≤ 251 }
     requires left_small { (k : ℕ) → slice_index a.now k ≤ 250 }
     requires right_small { (k : ℕ) → slice_index b.now k ≤ 250 }
-    ensures { (i j : ℕ) → i < rows → j < cols
-        → slice_index out.new (i * cols + j) ≡ total inner (λ k. slice_index a.now (i * inner + k) * slice_index b.now (k * cols + j)) % p }
+    ensures { (i j : ℕ) → i < shape.rows → j < cols
+        → slice_index out.new (i * cols + j) ≡ total shape.cols (λ k. slice_index a.now (i * shape.cols + k) * slice_index b.now (k * cols + j)) % p }
 {
-    for i in 0..rows {
-        sum_row(sums, a, i, inner, b, cols);
-        store_row(out, rows, cols, i, sums, p);
+    for i in 0..shape.rows {
+        sum_row(sums, a, i, shape.cols, b, cols);
+        store_row(out, shape.rows, cols, i, sums, p);
     }
 }
 
@@ -182,27 +188,27 @@ pub(crate) fn transpose(out: &mut [u16], a: &[u16], rows: usize, cols: usize)
     }
 }
 
-/// The block of a flat buffer of `a_rows` and `a_cols` from row `row` and column `col` on.
+/// The block of the given shape of another flat buffer, from its row `row` and column `col` on.
 #[tactic(auto, using(std::proofs::lemmas::Nat::rows))]
 pub(crate) fn copy_block(
     out: &mut [u16],
+    shape: Shape,
     a: &[u16],
-    a_rows: usize,
-    a_cols: usize,
+    a_shape: Shape,
     row: usize,
     col: usize,
-    rows: usize,
-    cols: usize,
 )
-    requires out_size { length out.old ≡ rows * cols }
-    requires size { length a.now ≡ a_rows * a_cols }
-    requires rows { row + rows ≤ a_rows }
-    requires columns { col + cols ≤ a_cols }
-    ensures { (i j : ℕ) → i < rows → j < cols → slice_index out.new (i * cols + j) ≡ slice_index a.now ((row + i) * a_cols + (col + j)) }
+    requires out_size { length out.old ≡ shape.rows * shape.cols }
+    requires size { length a.now ≡ a_shape.rows * a_shape.cols }
+    requires rows { row + shape.rows ≤ a_shape.rows }
+    requires columns { col + shape.cols ≤ a_shape.cols }
+    ensures { (i j : ℕ) → i < shape.rows → j < shape.cols
+        → slice_index out.new (i * shape.cols + j) ≡ slice_index a.now ((row + i) * a_shape.cols + (col + j)) }
 {
-    for i in 0..rows {
-        let from = (row + i) * a_cols + col;
-        out[i * cols..i * cols + cols].copy_from_slice(&a[from..from + cols]);
+    let width = shape.cols;
+    for i in 0..shape.rows {
+        let from = (row + i) * a_shape.cols + col;
+        out[i * width..i * width + width].copy_from_slice(&a[from..from + width]);
     }
 }
 
@@ -225,21 +231,23 @@ fn kron_row(out: &mut [u16], a: &[u16], b: &[u16], p: u16, m: u16)
 
 /// Rows of a Kronecker product: those of one row with each row of a flat buffer.
 #[tactic(auto, using(std::proofs::lemmas::Nat::rows))]
-fn kron_rows(out: &mut [u16], a: &[u16], b: &[u16], rows: usize, cols: usize, p: u16, m: u16)
-    requires size { length out.old ≡ rows * (length a.now * cols) }
-    requires right_size { length b.now ≡ rows * cols }
+fn kron_rows(out: &mut [u16], a: &[u16], b: &[u16], shape: Shape, p: u16, m: u16)
+    requires size { length out.old ≡ shape.rows * (length a.now * shape.cols) }
+    requires right_size { length b.now ≡ shape.rows * shape.cols }
     requires left_narrow { length a.now ≤ 2048 }
-    requires right_narrow { cols ≤ 2048 }
+    requires right_narrow { shape.cols ≤ 2048 }
     requires low { 2 ≤ p }
     requires high { p ≤ 251 }
     requires ratio { m ≡ 65536 / p }
     requires left_small { (k : ℕ) → slice_index a.now k ≤ 250 }
     requires right_small { (k : ℕ) → slice_index b.now k ≤ 250 }
-    ensures { (i j : ℕ) → i < rows → j < length a.now * cols
-        → slice_index out.new (i * (length a.now * cols) + j) ≡ (slice_index a.now (j / cols) * slice_index b.now (i * cols + j % cols)) % p }
+    ensures { (i j : ℕ) → i < shape.rows → j < length a.now * shape.cols
+        → slice_index out.new (i * (length a.now * shape.cols) + j)
+        ≡ (slice_index a.now (j / shape.cols) * slice_index b.now (i * shape.cols + j % shape.cols)) % p }
 {
+    let cols = shape.cols;
     let width = a.len() * cols;
-    for i in 0..rows {
+    for i in 0..shape.rows {
         kron_row(
             &mut out[i * width..i * width + width],
             a,
@@ -250,41 +258,40 @@ fn kron_rows(out: &mut [u16], a: &[u16], b: &[u16], rows: usize, cols: usize, p:
     }
 }
 
-/// The Kronecker product of two flat buffers.
+/// The Kronecker product of two flat buffers. `m` is 65536 / p.
 #[tactic(auto, using(std::proofs::lemmas::Nat::rows))]
 pub(crate) fn kron(
     out: &mut [u16],
     a: &[u16],
-    a_rows: usize,
-    a_cols: usize,
+    a_shape: Shape,
     b: &[u16],
-    rows: usize,
-    cols: usize,
+    shape: Shape,
     p: u16,
     m: u16,
 )
-    requires size { length out.old ≡ a_rows * (rows * (a_cols * cols)) }
-    requires left_size { length a.now ≡ a_rows * a_cols }
-    requires right_size { length b.now ≡ rows * cols }
-    requires left_narrow { a_cols ≤ 2048 }
-    requires right_narrow { cols ≤ 2048 }
-    requires right_short { rows ≤ 2048 }
+    requires size { length out.old ≡ a_shape.rows * (shape.rows * (a_shape.cols * shape.cols)) }
+    requires left_size { length a.now ≡ a_shape.rows * a_shape.cols }
+    requires right_size { length b.now ≡ shape.rows * shape.cols }
+    requires left_narrow { a_shape.cols ≤ 2048 }
+    requires right_narrow { shape.cols ≤ 2048 }
+    requires right_short { shape.rows ≤ 2048 }
     requires low { 2 ≤ p }
     requires high { p ≤ 251 }
     requires ratio { m ≡ 65536 / p }
     requires left_small { (k : ℕ) → slice_index a.now k ≤ 250 }
     requires right_small { (k : ℕ) → slice_index b.now k ≤ 250 }
-    ensures { (i j : ℕ) → i < a_rows * rows → j < a_cols * cols
-        → slice_index out.new (i * (a_cols * cols) + j) ≡ (slice_index a.now (i / rows * a_cols + j / cols) * slice_index b.now (i % rows * cols + j % cols)) % p }
+    ensures { (i j : ℕ) → i < a_shape.rows * shape.rows → j < a_shape.cols * shape.cols
+        → slice_index out.new (i * (a_shape.cols * shape.cols) + j)
+        ≡ (slice_index a.now (i / shape.rows * a_shape.cols + j / shape.cols) * slice_index b.now (i % shape.rows * shape.cols + j % shape.cols)) % p }
 {
-    let block = rows * (a_cols * cols);
-    for i in 0..a_rows {
+    let wide = a_shape.cols;
+    let block = shape.rows * (wide * shape.cols);
+    for i in 0..a_shape.rows {
         kron_rows(
             &mut out[i * block..i * block + block],
-            &a[i * a_cols..i * a_cols + a_cols],
+            &a[i * wide..i * wide + wide],
             b,
-            rows,
-            cols,
+            shape,
             p,
             m,
         );

@@ -29,7 +29,7 @@ impl Model for Matrix {
 }
 
 impl Matrix {
-    /// The matrix of a flat buffer of residues, row after row.
+    /// The matrix of `rows` rows and `cols` columns whose cells, row after row, are given.
     pub fn from_cells(field: Field, rows: u32, cols: u32, cells: Vec<u16>) -> Matrix
         requires size { fits_limits rows cols ≡ true }
         requires long { length cells.items ≡ rows * cols }
@@ -45,7 +45,7 @@ impl Matrix {
         }
     }
 
-    /// The flat buffer, row after row.
+    /// The cells in one buffer, row after row.
     pub fn into_cells(self) -> Vec<u16>
         ensures { IsBufferOf self result.items }
     {

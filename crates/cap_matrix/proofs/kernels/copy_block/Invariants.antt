@@ -3,4 +3,4 @@ use Rattle.cap_matrix.proofs.Writes.{AreRows}
 use Rattle.cap_matrix.proofs.kernels.copy_block.Given as goal
 
 abbrev pub invariant-loop-i : goal.invariant-loop-i
-invariant-loop-i l = AreRows l.cols l.i l.out (λ i j. get_or l.a ((l.row + i) * l.a_cols + (l.col + j)) 0)
+invariant-loop-i l = AreRows l.fn.shape.cols l.i l.out (λ i j. get_or l.a ((l.row + i) * l.a_shape.cols + (l.col + j)) 0)

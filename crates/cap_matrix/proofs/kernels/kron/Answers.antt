@@ -7,12 +7,12 @@ use Rattle.cap_matrix.proofs.kernels.kron.Goals as goal
 pub loop-i-preserved : goal.loop-i-preserved
 loop-i-preserved c =
     let t = c.loop-i.i in
-    let rows = c.args.rows in
-    let cols = c.args.cols in
-    let wide = c.args.a_cols in
+    let rows = c.args.shape.rows in
+    let cols = c.args.shape.cols in
+    let wide = c.args.a_shape.cols in
     let part = take (t * wide + wide - t * wide) (drop (t * wide) c.args.a.now) in
     let long : length part ≡ wide = omega (arith, length-take (t * wide + wide - t * wide) (drop (t * wide) c.args.a.now), length-drop (t * wide) c.args.a.now) in
-    blocks_more (wide * cols) rows t c.args.a_rows _ c.loop-i.out c.kron_rows.new.out
+    blocks_more (wide * cols) rows t c.args.a_shape.rows _ c.loop-i.out c.kron_rows.new.out
     (λ i j. (get_or c.args.a.now (i / rows * wide + j / cols) 0 * get_or c.args.b.now (i % rows * cols + j % cols) 0) % c.args.p)
     c.loop-i.invariant (omega arith) (omega arith) (omega arith)
     (λ r j lt below.
@@ -25,6 +25,6 @@ loop-i-preserved c =
 
 pub slice_bounds-kron_rows-end : goal.slice_bounds-kron_rows-end
 slice_bounds-kron_rows-end c =
-    let block = c.args.rows * (c.args.a_cols * c.args.cols) in
-    let fits : c.loop-i.i * block + block ≤ c.args.a_rows * block = row_fits c.loop-i.i block c.args.a_rows block (omega arith) (omega arith) in
+    let block = c.args.shape.rows * (c.args.a_shape.cols * c.args.shape.cols) in
+    let fits : c.loop-i.i * block + block ≤ c.args.a_shape.rows * block = row_fits c.loop-i.i block c.args.a_shape.rows block (omega arith) (omega arith) in
     search rules

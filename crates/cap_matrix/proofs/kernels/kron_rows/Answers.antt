@@ -7,10 +7,10 @@ use Rattle.cap_matrix.proofs.kernels.kron_rows.Goals as goal
 
 pub loop-i-preserved : goal.loop-i-preserved
 loop-i-preserved c =
-    let cols = c.args.cols in
+    let cols = c.args.shape.cols in
     let i = c.loop-i.i in
     let part = take (i * cols + cols - i * cols) (drop (i * cols) c.args.b.now) in
-    rows_more (length c.args.a.now * cols) i c.args.rows _ c.loop-i.out c.kron_row.new.out
+    rows_more (length c.args.a.now * cols) i c.args.shape.rows _ c.loop-i.out c.kron_row.new.out
     (λ i j. (get_or c.args.a.now (j / cols) 0 * get_or c.args.b.now (i * cols + j % cols) 0) % c.args.p)
     c.loop-i.invariant (omega arith) (omega arith) (omega arith)
     (λ j below.

@@ -1,7 +1,7 @@
-use Rattle.std.proofs.Common.{◌≡◌, ℕ, ◌+◌, ◌-◌, ◌*◌, ◌/◌, ◌%◌, ◌<◌, ◌≤◌, ltb, cond, eqb, List, length, get_or, true, refl, sym, ap, ◌∙◌, subst, arith, rules, ⊎_elim}
-use Rattle.std.proofs.lemmas.List.{with_items_is, length-replicate}
-use Rattle.cap_matrix.specs.Grid.{entry, total, fits_limits}
-use Rattle.cap_matrix.proofs.Filled.{filled_residues, filled_matrix, rows-product, rows-sum, rows-scaled, rows-transposed, rows-stacked, rows-beside, rows-block, rows-kron, held_small, held_below, beside_small, remainder_small, fits_turned, fits_smaller, fits_same, fits_parts}
+use Rattle.std.proofs.Common.{ℕ, ◌+◌, refl, ◌∙◌, arith}
+use Rattle.std.proofs.lemmas.List.{with_items_is}
+use Rattle.cap_matrix.specs.Grid.{entry}
+use Rattle.cap_matrix.proofs.Filled.{filled_residues, filled_matrix, rows-block, held_small}
 use Rattle.cap_matrix.proofs.matrix.Matrix.block.Goals as goal
 
 pub from_cells-requires-clause-residues : goal.from_cells-requires-clause-residues
