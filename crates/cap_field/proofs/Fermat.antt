@@ -3,7 +3,7 @@ use Rattle.std.proofs.Common.{◌≡◌, ℕ, suc, ◌+◌, ◌-◌, ◌*◌, �
 use Rattle.std.specs.List.{list_any, list_all}
 use Rattle.std.proofs.lemmas.Bool.{and_parts, or_cases, eqb-true, leb-true, agree_below, agree_below_at, false≢true}
 use Rattle.std.proofs.lemmas.Nat.{mul-mod_first, mul-mod_second, pow-mod, mul-pow, pow-add}
-use Rattle.std.proofs.Math.Nat.{div-add-mod, pow-succ', pow-zero, mul-one}
+use Rattle.std.proofs.Math.Nat.{mod-lt, mod-eq_of_lt, div-add-mod, pow-succ', pow-zero, mul-one}
 use Rattle.cap_field.specs.Residue.{is_tabled, primes}
 
 -- what a test finds of each number of a list holds of each that is in it
@@ -72,3 +72,9 @@ inverse_from_power p a r b n t pos below done h =
     ∙ mul-mod_second a (a ^ (p - 2)) p
     ∙ ap (λ y. y % p) (sym (pow-succ' a (p - 2)) ∙ ap (λ k. a ^ k) e)
     ∙ fermat p a t pos below
+
+-- each residue but 0 has an inverse
+pub tabled_inverse : (p a : ℕ) → is_tabled p ≡ true → 0 < a → a < p → (b : ℕ) × (b < p) × ((a * b) % p ≡ 1)
+tabled_inverse p a t pos below =
+    let some : 0 < p = omega arith in
+    (a ^ (p - 2) % p, mod-lt (a ^ (p - 2)) some, inverse_from_power p a (a ^ (p - 2) % p) 1 0 t pos below (omega arith) (ap (λ y. y % p) (mul-one (a ^ (p - 2) % p)) ∙ mod-eq_of_lt (mod-lt (a ^ (p - 2)) some)))

@@ -1,3 +1,3 @@
 pub mod Fermat
 mod Barrett
-mod Remainders
+pub mod Remainders

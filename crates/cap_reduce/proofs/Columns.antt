@@ -1,10 +1,10 @@
 -- The rows of M outside the span of those before are the leads of the reduced form of the transpose, and what solves x·M = v.
-use Rattle.std.proofs.Common.{◌≡◌, ◌≢◌, ℕ, zero, suc, ◌+◌, ◌-◌, ◌*◌, ◌%◌, ◌<◌, ◌≤◌, ◌⊎◌, inl, inr, refl, sym, ap, ◌∙◌, arith, ⊎_elim}
-use Rattle.std.proofs.lemmas.Nat.{mul-mod_first, mul-mod_second}
-use Rattle.std.proofs.lemmas.Bool.{cases_eq, cases_lt, cases_order}
-use Rattle.std.proofs.Math.Nat.{mul-zero, zero-mul, one-mul, mul-one, mul_comm, mul_left_comm, zero-mod, mod-eq_of_lt, add-mod}
+use Rattle.std.proofs.Common.{◌≡◌, ◌≢◌, ℕ, ◌*◌, ◌%◌, ◌<◌, ◌≤◌, inl, inr, refl, sym, ap, ◌∙◌, arith, ⊎_elim}
+use Rattle.std.proofs.lemmas.Nat.{mul-mod_second}
+use Rattle.std.proofs.lemmas.Bool.{cases_lt, cases_order}
+use Rattle.std.proofs.Math.Nat.{mul-zero, zero-mul, mul-one, mul_left_comm, zero-mod, mod-eq_of_lt}
 use Rattle.cap_matrix.specs.Grid.{total}
-use Rattle.cap_matrix.proofs.Sums.{total-same, total-zeros, total-mod, total-one, total-swap, total-scale, total-scale_right}
+use Rattle.cap_matrix.proofs.Sums.{total-same, total-zeros, total-mod, total-one, total-swap, total-scale}
 use Rattle.cap_matrix.specs.Reduced.{InSpan, IsReducedBy}
 use Rattle.cap_reduce.proofs.Unique.{find_among}
 

@@ -1,14 +1,13 @@
 -- Each row is in the span of a matrix, or a column shows that it is not.
-use Rattle.std.proofs.Common.{◌≡◌, ◌≢◌, ◌⊎◌, ℕ, zero, suc, ◌*◌, ◌%◌, ◌<◌, ◌≤◌, List, length, get_or, sym, ap, ◌∙◌, subst, arith, inl, inr, ⊎_elim}
+use Rattle.std.proofs.Common.{◌≡◌, ◌⊎◌, ℕ, zero, suc, ◌*◌, ◌%◌, ◌<◌, ◌≤◌, get_or, sym, ap, ◌∙◌, subst, arith, inl, inr, ⊎_elim}
 use Rattle.std.proofs.lemmas.Bool.{cases_eq, cases_lt}
 use Rattle.cap_field.proofs.Fermat.{tabled_range}
-use Rattle.cap_matrix.specs.Grid.{Grid, entry, total, row_by}
-use Rattle.cap_matrix.specs.Reduced.{InSpan, IsReducedBy, IsInSpan, IsObstruction}
+use Rattle.cap_matrix.specs.Grid.{entry, total, row_by}
 use Rattle.cap_matrix.proofs.Sums.{total-same}
 use Rattle.cap_matrix.proofs.Rows.{length-row_by, row_by-at}
 use Rattle.cap_matrix.proofs.Entries.{small-at}
 use Rattle.cap_reduce.specs.Laws.{ObstructionRefutes, SolvedOrObstructed}
-use Rattle.cap_reduce.specs.NullTable.{IsScanned, null_value}
+use Rattle.cap_reduce.specs.NullTable.{null_value}
 use Rattle.cap_reduce.proofs.Spans.{span_within}
 use Rattle.cap_reduce.proofs.Null.{relation_in_span}
 use Rattle.cap_reduce.proofs.OneReduced.{span_from_list}

@@ -1,11 +1,11 @@
 -- What an elimination leaves in a buffer is the reduced form of the matrix that stood there.
-use Rattle.std.proofs.Common.{◌≡◌, ℕ, ◌+◌, ◌-◌, ◌*◌, ◌%◌, ◌<◌, ◌≤◌, cond, ltb, leb, true, ◌&&◌, List, length, get_or, refl, sym, ap, ◌∙◌, subst, arith, ⊎_elim}
+use Rattle.std.proofs.Common.{◌≡◌, ℕ, ◌+◌, ◌-◌, ◌*◌, ◌%◌, ◌≤◌, cond, ltb, leb, true, ◌&&◌, List, refl, sym, ap, ◌∙◌, arith, ⊎_elim}
 use Rattle.std.proofs.lemmas.Bool.{cases_lt, and_parts, leb-true, le-leb, lt-ltb, le-ltb, cond-true, cond-false}
 use Rattle.std.proofs.Math.Nat.{mul-le-mul_right}
 use Rattle.cap_field.proofs.Fermat.{tabled_range}
 use Rattle.cap_matrix.specs.Grid.{Grid, entry, matrix_by, zero_of, stacked_of, fits_limits}
 use Rattle.cap_matrix.specs.Buffer.{matrix_of}
-use Rattle.cap_matrix.specs.Reduced.{InSpan, IsReducedForm}
+use Rattle.cap_matrix.specs.Reduced.{IsReducedForm}
 use Rattle.cap_matrix.proofs.Entries.{matrix_by-at, zero-at}
 use Rattle.cap_reduce.specs.Answers.{IsReducedInPlace}
 use Rattle.cap_reduce.specs.Cleared.{IsCleared, IsSameSpan}

@@ -1,10 +1,8 @@
 -- The steps of an elimination keep the span, and its end is reduced.
-use Rattle.std.proofs.Common.{◌≡◌, ◌≢◌, ℕ, zero, suc, ◌+◌, ◌-◌, ◌*◌, ◌%◌, ◌<◌, ◌≤◌, refl, sym, ap, ◌∙◌, arith, ⊎_elim}
+use Rattle.std.proofs.Common.{◌≡◌, ℕ, ◌+◌, ◌-◌, ◌*◌, ◌%◌, ◌<◌, ◌≤◌, sym, ap, ◌∙◌, arith, ⊎_elim}
 use Rattle.std.proofs.lemmas.Nat.{mul-mod_first, mul-mod_second}
 use Rattle.std.proofs.lemmas.Bool.{cases_eq, cases_lt}
-use Rattle.std.proofs.Math.Nat.{mod-lt, mod-add-mod, mod-mod, add-mul-mod_self_left, mul-zero, one-mul, mul_comm, mul_assoc, add-mul, add_assoc, add-zero, zero-mul}
-use Rattle.cap_matrix.specs.Grid.{total}
-use Rattle.cap_matrix.proofs.Sums.{total-same}
+use Rattle.std.proofs.Math.Nat.{mod-lt, mod-add-mod, mod-mod, add-mul-mod_self_left, one-mul, mul_comm, mul_assoc, add-mul, add_assoc}
 use Rattle.cap_matrix.specs.Reduced.{InSpan, IsReducedBy}
 use Rattle.cap_reduce.specs.Cleared.{IsCleared, IsPivoted, IsSwapped, IsSameSpan}
 use Rattle.cap_reduce.proofs.Spans.{span_same, span_zero, span_add, span_scale, span_row, span_within}

@@ -22,3 +22,4 @@ pub mod NullColumns
 pub mod SolveAnswers
 pub mod Decided
 pub mod Ranks
+mod Examples

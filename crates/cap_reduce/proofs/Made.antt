@@ -1,5 +1,5 @@
 -- Matrices and the flat buffers that hold them, at counts of one's own.
-use Rattle.std.proofs.Common.{◌≡◌, ℕ, ◌+◌, ◌*◌, ◌<◌, List, get_or, ap, subst, arith, ◌∙◌}
+use Rattle.std.proofs.Common.{◌≡◌, ℕ, ◌+◌, ◌*◌, ◌<◌, List, get_or, ap, subst}
 use Rattle.cap_matrix.specs.Grid.{Grid, IsMatrixOf, entry, matrix_by}
 use Rattle.cap_matrix.specs.Buffer.{IsFlat, IsBufferOf, matrix_of}
 use Rattle.cap_matrix.proofs.Rows.{rows_by-same}

@@ -1,13 +1,13 @@
 -- Relations between columns, and the rows x with x·M = 0 by the reduced form of M beside the identity.
-use Rattle.std.proofs.Common.{◌≡◌, ◌≢◌, ℕ, zero, suc, ◌+◌, ◌-◌, ◌*◌, ◌%◌, ◌<◌, ◌≤◌, Bool, cond, eqb, ltb, refl, sym, ap, ◌∙◌, arith, ⊎_elim}
+use Rattle.std.proofs.Common.{◌≡◌, ℕ, zero, suc, ◌+◌, ◌-◌, ◌*◌, ◌%◌, ◌<◌, ◌≤◌, cond, eqb, ltb, refl, sym, ap, ◌∙◌, arith, ⊎_elim}
 use Rattle.std.proofs.lemmas.Nat.{mul-mod_first, mul-mod_second}
 use Rattle.std.proofs.lemmas.Bool.{cases_eq, cases_lt, eq-eqb, ne_eqb, lt-ltb, le-ltb, cond-true, cond-false}
-use Rattle.std.proofs.Math.Nat.{mul-zero, zero-mul, one-mul, mul-one, mul_assoc, zero-mod, add-zero, zero-add, mod-mod}
+use Rattle.std.proofs.Math.Nat.{mul-zero, zero-mul, mul-one, mul_assoc, zero-mod}
 use Rattle.cap_matrix.specs.Grid.{total}
 use Rattle.cap_matrix.proofs.Sums.{total-same, total-zeros, total-mod, total-one, total-swap, total-scale, total-scale_right}
 use Rattle.cap_matrix.specs.Reduced.{InSpan, IsReducedBy}
 use Rattle.cap_reduce.specs.Cleared.{IsSameSpan}
-use Rattle.cap_reduce.proofs.Spans.{span_same, span_row, span_within}
+use Rattle.cap_reduce.proofs.Spans.{span_within}
 use Rattle.cap_reduce.proofs.Unique.{known_at_leads}
 
 -- what the columns of a table satisfy, each member of its span satisfies

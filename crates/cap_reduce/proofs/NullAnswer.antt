@@ -1,14 +1,13 @@
 -- The answer of the reduction of a turned transpose is the null-row basis.
-use Rattle.std.proofs.Common.{◌≡◌, ℕ, zero, suc, ◌+◌, ◌-◌, ◌*◌, ◌%◌, ◌<◌, ◌≤◌, true, false, List, length, get_or, Result, Ok, Err, refl, sym, ap, ◌∙◌, subst, arith, ⊎_elim}
+use Rattle.std.proofs.Common.{◌≡◌, ℕ, zero, suc, ◌-◌, ◌%◌, ◌<◌, ◌≤◌, Result, Ok, Err, sym, ap, subst, arith, ⊎_elim}
 use Rattle.std.proofs.lemmas.Bool.{cases_eq}
-use Rattle.cap_matrix.specs.Grid.{Grid, IsMatrixOf, entry, matrix_by}
+use Rattle.cap_matrix.specs.Grid.{Grid, IsMatrixOf, matrix_by}
 use Rattle.cap_matrix.specs.Made.{IsMade}
-use Rattle.cap_matrix.specs.Reduced.{InSpan, IsReducedBy, IsNullBasis}
+use Rattle.cap_matrix.specs.Reduced.{IsReducedBy, IsNullBasis}
 use Rattle.cap_matrix.specs.declared.MatrixFault.{MatrixFault}
 use Rattle.cap_matrix.specs.declared.MatrixFault.TheVariants.{TooLarge, NoMemory}
 use Rattle.cap_reduce.specs.Answers.{IsNullRows}
 use Rattle.cap_reduce.specs.Cleared.{IsCleared, IsSameSpan}
-use Rattle.cap_reduce.specs.Flat.{cell}
 use Rattle.cap_reduce.specs.NullTable.{IsNullTableMade}
 use Rattle.cap_reduce.proofs.Spans.{span_same, span_within}
 use Rattle.cap_reduce.proofs.Kept.{span_at_end}

@@ -1,5 +1,5 @@
 -- The null-row basis of a matrix: from its rows, as a kernel, and only one.
-use Rattle.std.proofs.Common.{◌≡◌, ℕ, ◌-◌, ◌*◌, ◌%◌, ◌<◌, ◌≤◌, List, [], length, get_or, refl, sym, ap, ◌∙◌, subst, arith}
+use Rattle.std.proofs.Common.{◌≡◌, ℕ, ◌*◌, ◌%◌, ◌<◌, ◌≤◌, List, [], length, get_or, refl, sym, ap, ◌∙◌, subst, arith}
 use Rattle.std.proofs.Math.Nat.{mod-lt, mod-mod, mod-eq_of_lt}
 use Rattle.std.proofs.lemmas.Nat.{mul-mod_first}
 use Rattle.cap_matrix.specs.Grid.{Grid, IsMatrix, IsMatrixOf, entry, total, row_by, product_of, matrix_by}
@@ -7,7 +7,6 @@ use Rattle.cap_matrix.proofs.Sums.{total-mod, total-same}
 use Rattle.cap_matrix.proofs.Rows.{length-row_by, row_by-at, row_by-same}
 use Rattle.cap_matrix.proofs.Entries.{matrix_ext, matrix_by-at, matrix_by-is, small-at, product-matrix, zero-matrix, product-at, zero-at, same-at}
 use Rattle.cap_matrix.specs.Reduced.{InSpan, IsInSpan, IsReduced, IsReducedBy, IsNullRow, IsNullBasis}
-use Rattle.cap_matrix.specs.Kernel.{IsKernelOf, IsOnlyFactor}
 use Rattle.cap_reduce.specs.Laws.{OneNullBasis, NullBasisIsKernel}
 use Rattle.cap_reduce.proofs.Spans.{span_row, span_same}
 use Rattle.cap_reduce.proofs.Unique.{factor_at_lead}

@@ -1,8 +1,7 @@
 -- Columns y with M·y = 0 by the reduced form of M, and that one of them tells a row outside the span.
-use Rattle.std.proofs.Common.{◌≡◌, ◌≢◌, ℕ, ◌+◌, ◌-◌, ◌*◌, ◌%◌, ◌<◌, ◌≤◌, cond, eqb, refl, sym, ap, ◌∙◌, arith, ⊎_elim}
-use Rattle.std.proofs.lemmas.Bool.{cases_eq, cases_lt, eq-eqb, ne_eqb, cond-true, cond-false}
-use Rattle.std.proofs.lemmas.Nat.{mul-mod_first}
-use Rattle.std.proofs.Math.Nat.{mod_self, mod-add-mod, mod-eq_of_lt, add-mod, mul-one, one-mul, mul-zero, zero-mul}
+use Rattle.std.proofs.Common.{◌≡◌, ◌≢◌, ℕ, ◌+◌, ◌-◌, ◌*◌, ◌%◌, ◌<◌, ◌≤◌, eqb, refl, sym, ap, ◌∙◌, arith, ⊎_elim}
+use Rattle.std.proofs.lemmas.Bool.{cases_eq, eq-eqb, ne_eqb, cond-true, cond-false}
+use Rattle.std.proofs.Math.Nat.{mod_self, mod-add-mod, add-mod, mul-one, one-mul, mul-zero, zero-mul}
 use Rattle.cap_matrix.specs.Grid.{total}
 use Rattle.cap_matrix.proofs.Sums.{total-one, total-mod}
 use Rattle.cap_matrix.specs.Reduced.{InSpan, IsReducedBy}

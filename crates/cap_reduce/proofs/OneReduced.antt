@@ -1,13 +1,12 @@
 -- A span has one reduced matrix.
-use Rattle.std.proofs.Common.{◌≡◌, ◌↔◌, ℕ, ◌+◌, ◌*◌, ◌%◌, ◌<◌, ◌≤◌, List, [], length, get_or, refl, sym, ap, ◌∙◌, subst, arith}
+use Rattle.std.proofs.Common.{◌≡◌, ℕ, ◌*◌, ◌%◌, ◌<◌, List, [], length, get_or, sym, ap, ◌∙◌, subst, arith}
 use Rattle.std.proofs.lemmas.List.{ext_get_or}
 use Rattle.std.proofs.Math.Nat.{mod-eq_of_lt, mod-mod}
-use Rattle.cap_matrix.specs.Grid.{Grid, entry, total, row_by, row_times}
+use Rattle.cap_matrix.specs.Grid.{Grid, entry, total, row_by}
 use Rattle.cap_matrix.specs.Reduced.{IsInSpan}
 use Rattle.cap_matrix.proofs.Sums.{total-same}
 use Rattle.cap_matrix.proofs.Rows.{length-row_by, row_by-at, row_by_is}
 use Rattle.cap_matrix.specs.Reduced.{InSpan, IsReducedBy}
-use Rattle.cap_matrix.specs.Grid.{IsShaped}
 use Rattle.cap_matrix.specs.Reduced.{IsReduced}
 use Rattle.cap_reduce.specs.Laws.{OneReducedMatrix}
 use Rattle.cap_reduce.proofs.Spans.{span_row}

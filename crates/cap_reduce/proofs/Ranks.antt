@@ -1,8 +1,8 @@
 -- Ranks: reduced rows in the span of s rows are at most s, the rank of the transpose is the rank, and the null rows are as many as the rows less the rank.
-use Rattle.std.proofs.Common.{◌≡◌, ℕ, ◌+◌, ◌-◌, ◌*◌, ◌%◌, ◌<◌, ◌≤◌, refl, sym, ap, ◌∙◌, subst, arith, ⊎_elim}
+use Rattle.std.proofs.Common.{◌≡◌, ℕ, ◌-◌, ◌*◌, ◌%◌, ◌<◌, ◌≤◌, refl, sym, ap, ◌∙◌, subst, arith, ⊎_elim}
 use Rattle.std.proofs.lemmas.Nat.{mul-mod_first, mul-mod_second}
 use Rattle.std.proofs.lemmas.Bool.{cases_lt, eq-eqb, cond-true}
-use Rattle.std.proofs.Math.Nat.{mod-lt, mod-eq_of_lt, mul_comm, mul-zero, zero-mul, one-mul, mul-one, zero-mod}
+use Rattle.std.proofs.Math.Nat.{mod-lt, mod-eq_of_lt, mul_comm, mul-zero, zero-mul, mul-one, zero-mod}
 use Rattle.cap_field.proofs.Fermat.{tabled_range}
 use Rattle.cap_matrix.specs.Grid.{Grid, entry, total}
 use Rattle.cap_matrix.specs.Reduced.{InSpan, IsReducedBy}

@@ -1,15 +1,15 @@
 -- The reduced form of a matrix: from a reduced table, that there is one, and only one; and the null-row basis.
-use Rattle.std.proofs.Common.{◌≡◌, ◌⊎◌, ℕ, zero, suc, ◌+◌, ◌-◌, ◌*◌, ◌%◌, ◌<◌, ◌≤◌, ltb, List, length, get_or, refl, sym, ap, ◌∙◌, subst, arith, ⊎_elim}
+use Rattle.std.proofs.Common.{◌≡◌, ℕ, zero, suc, ◌+◌, ◌-◌, ◌*◌, ◌%◌, ◌<◌, ◌≤◌, ltb, List, length, get_or, sym, ap, ◌∙◌, subst, arith, ⊎_elim}
 use Rattle.std.proofs.lemmas.Bool.{cases_lt, lt-ltb, le-ltb, cond-true, cond-false}
 use Rattle.std.proofs.Math.Nat.{mod-lt, zero-mod}
 use Rattle.cap_field.proofs.Fermat.{tabled_range}
-use Rattle.cap_matrix.specs.Grid.{Grid, IsMatrix, IsMatrixOf, entry, total, matrix_by}
-use Rattle.cap_matrix.specs.Reduced.{InSpan, IsInSpan, IsReduced, IsReducedBy, IsReducedForm, IsNullBasis}
+use Rattle.cap_matrix.specs.Grid.{Grid, IsMatrixOf, entry, total, matrix_by}
+use Rattle.cap_matrix.specs.Reduced.{InSpan, IsInSpan, IsReducedBy, IsReducedForm}
 use Rattle.cap_matrix.proofs.Rows.{length-row_by, row_by-at}
 use Rattle.cap_matrix.proofs.Entries.{matrix_by-at, matrix_by-is, small-at, delta, delta-small}
-use Rattle.cap_reduce.specs.Laws.{HasReducedForm, HasNullBasis, ReducedFormExists, OneReducedForm, NullBasisExists}
+use Rattle.cap_reduce.specs.Laws.{ReducedFormExists, OneReducedForm, NullBasisExists}
 use Rattle.cap_reduce.proofs.Spans.{span_same, span_within}
-use Rattle.cap_reduce.proofs.Null.{IsNull, beside_identity, null_from_span, null_reduced, null_spanned}
+use Rattle.cap_reduce.proofs.Null.{beside_identity, null_from_span, null_reduced, null_spanned}
 use Rattle.cap_reduce.proofs.OneReduced.{one_reduced_matrix}
 use Rattle.cap_reduce.proofs.Reduced.{reduced_same, span_of_same}
 use Rattle.cap_reduce.proofs.NullBasis.{matrix-ends, span-in, span-out, basis-from-table}

@@ -1,10 +1,10 @@
 -- Spans are closed under sums and multiples, and hold their rows.
-use Rattle.std.proofs.Common.{◌≡◌, ◌≢◌, ℕ, zero, suc, ◌+◌, ◌-◌, ◌*◌, ◌%◌, ◌<◌, ◌≤◌, Bool, cond, eqb, refl, sym, ap, ◌∙◌, arith, ⊎_elim}
-use Rattle.std.proofs.lemmas.Nat.{mul-mod_first, mul-mod_second}
-use Rattle.std.proofs.lemmas.Bool.{cases_eq, eq-eqb, ne_eqb, cond-true, cond-false}
-use Rattle.std.proofs.Math.Nat.{add-mod, mul-zero, zero-mul, one-mul, mul_comm, mul_assoc, add-mul, zero-add, add-zero}
+use Rattle.std.proofs.Common.{◌≡◌, ℕ, zero, suc, ◌+◌, ◌*◌, ◌%◌, ◌<◌, cond, eqb, refl, sym, ap, ◌∙◌, arith}
+use Rattle.std.proofs.lemmas.Nat.{mul-mod_second}
+use Rattle.std.proofs.lemmas.Bool.{eq-eqb, ne_eqb, cond-true, cond-false}
+use Rattle.std.proofs.Math.Nat.{add-mod, zero-mul, one-mul, mul_assoc, add-mul}
 use Rattle.cap_matrix.specs.Grid.{total}
-use Rattle.cap_matrix.proofs.Sums.{total-same, total-zeros, total-plus, total-scale, total-mod, total-one}
+use Rattle.cap_matrix.proofs.Sums.{total-same, total-zeros, total-plus, total-scale, total-one}
 use Rattle.cap_matrix.specs.Reduced.{InSpan}
 
 pub span_same : (p n m : ℕ) (t : ℕ → ℕ → ℕ) (v w : ℕ → ℕ) → InSpan p n m t v → ((j : ℕ) → j < m → v j % p ≡ w j % p) → InSpan p n m t w

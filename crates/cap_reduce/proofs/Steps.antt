@@ -1,12 +1,8 @@
 -- The steps of an elimination keep the span, and clear one column more.
-use Rattle.std.proofs.Common.{◌≡◌, ◌≢◌, ℕ, zero, suc, ◌+◌, ◌-◌, ◌*◌, ◌%◌, ◌<◌, ◌≤◌, ◌⊎◌, Bool, cond, eqb, refl, sym, ap, ◌∙◌, arith, ⊎_elim}
-use Rattle.std.proofs.lemmas.Nat.{mul-mod_first, mul-mod_second}
+use Rattle.std.proofs.Common.{◌≡◌, ◌≢◌, ℕ, ◌+◌, ◌-◌, ◌*◌, ◌%◌, ◌<◌, ◌≤◌, ◌⊎◌, cond, eqb, refl, sym, ap, ◌∙◌, arith, ⊎_elim}
 use Rattle.std.proofs.lemmas.Bool.{cases_eq, cases_lt, eq-eqb, ne_eqb, cond-true, cond-false}
-use Rattle.std.proofs.Math.Nat.{mod-add-mod, mod-mod, mod_self, mod-eq_of_lt, zero-mod, add-mul-mod_self_left, mul-zero, zero-mul, one-mul, mul-one, mul_comm, mul_assoc, mul_left_comm, add-mul, add_assoc, zero-add, add-zero, sub-add_cancel}
-use Rattle.cap_matrix.specs.Grid.{total}
-use Rattle.cap_matrix.specs.Reduced.{InSpan, IsReducedBy}
+use Rattle.std.proofs.Math.Nat.{mod_self, mod-eq_of_lt, zero-mod, mul-zero, zero-mul, mul-one, add-zero}
 use Rattle.cap_reduce.specs.Cleared.{IsCleared, IsPivoted, IsSwapped}
-use Rattle.cap_reduce.proofs.Spans.{span_same, span_add, span_scale, span_row}
 
 -- the start: nothing is cleared
 pub cleared_start : (p n m : ℕ) (t : ℕ → ℕ → ℕ) → ((i c : ℕ) → i < n → c < m → t i c < p) → IsCleared p n m t (λ i. 0) 0 0

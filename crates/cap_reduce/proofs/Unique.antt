@@ -1,10 +1,10 @@
 -- A span has at most one reduced table.
-use Rattle.std.proofs.Common.{◌≡◌, ◌≢◌, ℕ, zero, suc, ◌+◌, ◌-◌, ◌*◌, ◌%◌, ◌<◌, ◌≤◌, ◌⊎◌, refl, sym, ap, ◌∙◌, arith, inl, inr, ⊎_elim}
-use Rattle.std.proofs.lemmas.Nat.{mul-mod_first, mul-mod_second}
-use Rattle.std.proofs.lemmas.Bool.{cases_eq, cases_lt, cases_order}
-use Rattle.std.proofs.Math.Nat.{mul-zero, zero-mul, one-mul, mul-one, mod-eq_of_lt, zero-mod, ℕ_set}
+use Rattle.std.proofs.Common.{◌≡◌, ◌≢◌, ℕ, zero, suc, ◌-◌, ◌*◌, ◌%◌, ◌<◌, ◌≤◌, ◌⊎◌, sym, ap, ◌∙◌, arith, inl, inr, ⊎_elim}
+use Rattle.std.proofs.lemmas.Nat.{mul-mod_first}
+use Rattle.std.proofs.lemmas.Bool.{cases_eq, cases_lt}
+use Rattle.std.proofs.Math.Nat.{mul-zero, zero-mul, one-mul, mul-one, mod-eq_of_lt, zero-mod}
 use Rattle.cap_matrix.specs.Grid.{total}
-use Rattle.cap_matrix.proofs.Sums.{total-same, total-zeros, total-mod, total-one}
+use Rattle.cap_matrix.proofs.Sums.{total-zeros, total-mod, total-one}
 use Rattle.cap_matrix.specs.Reduced.{InSpan, IsReducedBy}
 
 -- the factor of a row is the entry at its lead

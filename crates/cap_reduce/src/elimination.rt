@@ -57,7 +57,7 @@ fn scale_row(cells: &mut [u16], rows: usize, cols: usize, row: usize, factor: u1
     }
 }
 
-/// Adds a multiple of a row that stands elsewhere to a row, in numbers of 16 bits. `m` is 2 ^ 16 / p.
+/// Adds a multiple of a row that stands elsewhere, and is 0 before column `from`, to a row, in numbers of 16 bits. `m` is 2 ^ 16 / p.
 #[tactic(auto, using(std::proofs::lemmas::Nat::rows))]
 fn add_row(
     cells: &mut [u16],
@@ -65,6 +65,7 @@ fn add_row(
     cols: usize,
     to: usize,
     source: &[u16],
+    from: usize,
     factor: u16,
     p: u16,
     m: u16,
@@ -76,12 +77,14 @@ fn add_row(
     requires high { p ≤ 251 }
     requires ratio { m ≡ 65536 / p }
     requires factor { factor ≤ p }
+    requires start { from ≤ cols }
+    requires bare { (c : ℕ) → c < from → slice_index source.now c ≡ 0 }
     requires source_small { (c : ℕ) → c < cols → slice_index source.now c < p }
     requires to_small { (c : ℕ) → c < cols → cell cells.old cols to c < p }
     ensures added { (c : ℕ) → c < cols → cell cells.new cols to c ≡ (cell cells.old cols to c + factor * slice_index source.now c) % p }
     ensures others { (i c : ℕ) → c < cols → i ≢ to → cell cells.new cols i c ≡ cell cells.old cols i c }
 {
-    for c in 0..cols {
+    for c in from..cols {
         let y = cells[to * cols + c];
         cells[to * cols + c] = reduced(y + factor * source[c], p, m);
     }
@@ -112,6 +115,38 @@ fn bring_up(cells: &mut [u16], rows: usize, cols: usize, to: usize, from: usize)
     }
 }
 
+/// Takes a multiple of a row that stands elsewhere, and is 0 before column `col`, from a row, so that a 1 in that column there
+/// leaves a 0 here. A row that has a 0 there stays.
+#[tactic(auto, using(std::proofs::lemmas::Nat::rows))]
+fn clear_entry(
+    cells: &mut [u16],
+    rows: usize,
+    cols: usize,
+    to: usize,
+    source: &[u16],
+    col: usize,
+    p: u16,
+    m: u16,
+)
+    requires size { length cells.old ≡ rows * cols }
+    requires width { length source.now ≡ cols }
+    requires to_within { to < rows }
+    requires column { col < cols }
+    requires low { 2 ≤ p }
+    requires high { p ≤ 251 }
+    requires ratio { m ≡ 65536 / p }
+    requires bare { (c : ℕ) → c < col → slice_index source.now c ≡ 0 }
+    requires source_small { (c : ℕ) → c < cols → slice_index source.now c < p }
+    requires to_small { (c : ℕ) → c < cols → cell cells.old cols to c < p }
+    ensures cleared { (c : ℕ) → c < cols → cell cells.new cols to c ≡ (cell cells.old cols to c + (p - cell cells.old cols to col) * slice_index source.now c) % p }
+    ensures others { (i c : ℕ) → c < cols → i ≢ to → cell cells.new cols i c ≡ cell cells.old cols i c }
+{
+    let x = cells[to * cols + col];
+    if x != 0 {
+        add_row(cells, rows, cols, to, source, col, p - x, p, m);
+    }
+}
+
 /// Takes multiples of a row, whose entry in a column is 1, from all others, so that theirs there are 0.
 #[tactic(auto, using(std::proofs::lemmas::Nat::rows))]
 fn clear_column(
@@ -127,6 +162,7 @@ fn clear_column(
     requires size { length cells.old ≡ rows * cols }
     requires width { length source.now ≡ cols }
     requires copied { (c : ℕ) → c < cols → slice_index source.now c ≡ cell cells.old cols row c }
+    requires bare { (c : ℕ) → c < col → slice_index source.now c ≡ 0 }
     requires within { row < rows }
     requires column { col < cols }
     requires low { 2 ≤ p }
@@ -137,8 +173,7 @@ fn clear_column(
 {
     for i in 0..rows {
         if i != row {
-            let factor = p - cells[i * cols + col];
-            add_row(cells, rows, cols, i, source, factor, p, m);
+            clear_entry(cells, rows, cols, i, source, col, p, m);
         }
     }
 }
@@ -159,6 +194,7 @@ fn pivot(
     requires within { row < rows }
     requires column { col < cols }
     requires some { cell cells.old cols row col ≢ 0 }
+    requires bare { (c : ℕ) → c < col → cell cells.old cols row c ≡ 0 }
     requires residues { (i c : ℕ) → i < rows → c < cols → cell cells.old cols i c < field }
     ensures big { 2 ≤ field }
     ensures pivoted { (b : ℕ) × IsPivoted field rows cols (cell cells.old cols) (cell cells.new cols) row col b }
@@ -184,6 +220,7 @@ fn clear_next(
     requires size { length cells.old ≡ rows * cols }
     requires width { length space.old ≡ cols }
     requires column { col < cols }
+    requires bare { (i c : ℕ) → done ≤ i → i < rows → c < col → cell cells.old cols i c ≡ 0 }
     requires residues { (i c : ℕ) → i < rows → c < cols → cell cells.old cols i c < field }
     ensures span { IsSameSpan field rows cols (cell cells.old cols) (cell cells.new cols) }
     ensures cleared { (lead : ℕ → ℕ) → IsCleared field rows cols (cell cells.old cols) lead done col

@@ -1,6 +1,5 @@
-use Rattle.std.proofs.Common.{ℕ, ◌≡◌, ◌+◌, ◌<◌, ◌≤◌, arith}
+use Rattle.std.proofs.Common.{◌<◌, ◌≤◌, arith}
 use Rattle.cap_reduce.specs.Flat.{cell}
-use Rattle.cap_reduce.specs.Cleared.{IsCleared, IsSameSpan}
 use Rattle.cap_reduce.proofs.Steps.{cleared_skip, cleared_swap, cleared_pivot, with_lead}
 use Rattle.cap_reduce.proofs.Kept.{same_span_refl, same_span_trans, same_span_swap, same_span_pivot, swapped_residues, pivoted_residues}
 use Rattle.cap_reduce.proofs.elimination.clear_next.Goals as goal

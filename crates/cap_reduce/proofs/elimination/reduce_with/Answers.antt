@@ -1,4 +1,3 @@
-use Rattle.std.proofs.Common.{ℕ, arith}
 use Rattle.cap_reduce.specs.Flat.{cell}
 use Rattle.cap_reduce.proofs.Steps.{cleared_start}
 use Rattle.cap_reduce.proofs.Kept.{same_span_refl, same_span_trans}

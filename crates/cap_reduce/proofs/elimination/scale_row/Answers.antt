@@ -1,4 +1,4 @@
-use Rattle.std.proofs.Common.{◌≡◌, ◌*◌, ◌%◌, length, ap, ◌∙◌, arith}
+use Rattle.std.proofs.Common.{◌*◌, ◌%◌, ap, ◌∙◌, arith}
 use Rattle.cap_reduce.specs.Flat.{cell}
 use Rattle.cap_matrix.proofs.Writes.{row_so_far_more}
 use Rattle.cap_reduce.proofs.elimination.scale_row.Goals as goal

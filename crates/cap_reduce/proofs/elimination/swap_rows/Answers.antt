@@ -1,4 +1,4 @@
-use Rattle.std.proofs.Common.{◌≡◌, ◌*◌, length, arith}
+use Rattle.std.proofs.Common.{arith}
 use Rattle.cap_reduce.proofs.Rows.{swap_so_far_more}
 use Rattle.cap_reduce.proofs.elimination.swap_rows.Goals as goal
 

@@ -1,11 +1,10 @@
-use Rattle.std.proofs.Common.{◌≡◌, ℕ, ◌+◌, ◌*◌, ◌<◌, List, length, get_or, take, sym, ap, ◌∙◌, subst, arith}
+use Rattle.std.proofs.Common.{◌≡◌, ℕ, ◌+◌, ◌*◌, ◌<◌, length, get_or, take, sym, ap, ◌∙◌, subst, arith}
 use Rattle.std.proofs.lemmas.List.{with_items_is, get_or-take}
 use Rattle.std.proofs.lemmas.Nat.{mul-add-lt}
 use Rattle.cap_matrix.specs.Buffer.{matrix_of}
-use Rattle.cap_matrix.specs.Grid.{Grid, matrix_by}
+use Rattle.cap_matrix.specs.Grid.{Grid}
 use Rattle.cap_matrix.specs.Reduced.{IsReducedForm}
 use Rattle.cap_matrix.proofs.Writes.{by_places}
-use Rattle.cap_reduce.specs.Cleared.{IsSameSpan}
 use Rattle.cap_reduce.specs.Flat.{cell}
 use Rattle.cap_reduce.proofs.FormAnswers.{fits_fewer, form_of_buffer}
 use Rattle.cap_reduce.proofs.Made.{IsHeld, held, matrix_of_is}

@@ -1,9 +1,7 @@
-use Rattle.std.proofs.Common.{◌≡◌, ℕ, ◌-◌, ◌*◌, ◌<◌, ◌≤◌, length, get_or, sym, ap, ◌∙◌, subst, arith}
+use Rattle.std.proofs.Common.{◌≡◌, ◌-◌, length, sym, ap, ◌∙◌, subst, arith}
 use Rattle.std.specs.Vec.{with_items}
 use Rattle.std.proofs.lemmas.List.{with_items_is}
-use Rattle.cap_matrix.specs.Grid.{Grid, IsMatrixOf, entry}
 use Rattle.cap_field.proofs.Fermat.{tabled_range}
-use Rattle.cap_reduce.specs.Cleared.{IsCleared, IsSameSpan}
 use Rattle.cap_reduce.specs.Flat.{cell}
 use Rattle.cap_reduce.specs.NullTable.{IsNullTableMade}
 use Rattle.cap_reduce.proofs.Kept.{reduced_at_end}

@@ -1,11 +1,10 @@
-use Rattle.std.proofs.Common.{◌≡◌, ℕ, ◌+◌, ◌-◌, ◌*◌, ◌<◌, List, length, get_or, Err, refl, sym, ap, ◌∙◌, subst, arith}
+use Rattle.std.proofs.Common.{◌≡◌, ℕ, ◌-◌, ◌*◌, ◌<◌, length, get_or, sym, ap, ◌∙◌, subst, arith}
 use Rattle.std.proofs.lemmas.List.{with_items_is}
 use Rattle.std.proofs.lemmas.Result.{err_from_is_err_and}
 use Rattle.cap_matrix.specs.Buffer.{matrix_of}
-use Rattle.cap_matrix.specs.Grid.{Grid, matrix_by}
 use Rattle.cap_matrix.proofs.Writes.{by_places}
 use Rattle.cap_reduce.specs.Flat.{cell}
-use Rattle.cap_reduce.specs.NullTable.{null_entry, IsNullTableMade}
+use Rattle.cap_reduce.specs.NullTable.{null_entry}
 use Rattle.cap_reduce.proofs.Leads.{at, backwards, null_table, scanned_is_free, scanned_is_table, null_value-small}
 use Rattle.cap_reduce.proofs.Made.{matrix_of_is}
 use Rattle.cap_reduce.proofs.nulls.null_rows_of_reduced.Goals as goal

@@ -1,8 +1,8 @@
-use Rattle.std.proofs.Common.{◌≡◌, ℕ, ◌*◌, ◌%◌, ◌<◌, ◌≤◌, List, length, get_or, sym, ap, ◌∙◌, subst, arith}
+use Rattle.std.proofs.Common.{◌≡◌, ◌*◌, ◌%◌, length, get_or, sym, ap, ◌∙◌, subst, arith}
 use Rattle.std.proofs.lemmas.List.{with_items_is}
 use Rattle.cap_field.proofs.Fermat.{tabled_range}
 use Rattle.cap_matrix.specs.Grid.{total}
-use Rattle.cap_matrix.specs.Reduced.{IsReducedBy, IsInSpan, IsObstruction}
+use Rattle.cap_matrix.specs.Reduced.{IsReducedBy, IsObstruction}
 use Rattle.cap_reduce.specs.Flat.{cell}
 use Rattle.cap_reduce.specs.NullTable.{IsNullColumn, null_value}
 use Rattle.cap_reduce.proofs.Kept.{reduced_at_end}

@@ -1,7 +1,5 @@
-use Rattle.std.proofs.Common.{◌≡◌, ◌≢◌, ℕ, ◌+◌, ◌<◌, ◌≤◌, arith}
-use Rattle.cap_matrix.specs.Reduced.{IsReducedBy}
+use Rattle.std.proofs.Common.{◌<◌, arith}
 use Rattle.cap_reduce.specs.Flat.{cell}
-use Rattle.cap_reduce.specs.NullTable.{IsScanned}
 use Rattle.cap_reduce.proofs.Leads.{at, scanned_lead, scanned_free, scanned_end, lead_found, no_lead}
 use Rattle.cap_reduce.proofs.scan.scan_leads.Goals as goal
 use Rattle.cap_reduce.proofs.scan.scan_leads.Goals.{then-met-rank+then-cells-met-ne0, else-met-rank, else-met-rank-via-then-met-rank+else-cells-met-ne0, else-met-rank-via-else-met-rank}

@@ -1,11 +1,10 @@
-use Rattle.std.proofs.Common.{◌≡◌, ℕ, length, sym, ap, ◌∙◌, subst, arith}
+use Rattle.std.proofs.Common.{◌≡◌, length, sym, ap, ◌∙◌, subst, arith}
 use Rattle.std.specs.Vec.{with_items}
 use Rattle.std.proofs.lemmas.List.{with_items_is}
 use Rattle.cap_field.proofs.Fermat.{tabled_range}
 use Rattle.cap_matrix.specs.Reduced.{IsReducedBy}
 use Rattle.cap_reduce.specs.Answers.{IsGreedy}
 use Rattle.cap_reduce.specs.Flat.{cell}
-use Rattle.cap_reduce.specs.NullTable.{IsLeadList}
 use Rattle.cap_reduce.proofs.Kept.{reduced_at_end}
 use Rattle.cap_reduce.proofs.Leads.{at}
 use Rattle.cap_reduce.proofs.LeadList.{greedy_of_table}

@@ -1,6 +1,6 @@
 use Rattle.std.proofs.Common.{◌≡◌, ℕ, get_or, subst, arith}
 use Rattle.cap_reduce.specs.NullTable.{IsLeadList}
-use Rattle.cap_reduce.proofs.LeadList.{lead_list_start, lead_list_push, lead_list_skip}
+use Rattle.cap_reduce.proofs.LeadList.{lead_list_push, lead_list_skip}
 use Rattle.cap_reduce.proofs.solving.lead_list.Goals as goal
 use Rattle.cap_reduce.proofs.solving.lead_list.Goals.{then-place-i+in_ok-push, else-place-i}
 
