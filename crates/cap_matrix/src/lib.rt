@@ -7,22 +7,10 @@ mod build;
 mod kernels;
 mod matrix;
 
+pub use cap_names::{NoMemory, TooLarge};
 pub use matrix::Matrix;
 use std::alloc::AllocError;
 use thiserror::Error;
-
-/// A matrix would have more than 2,048 rows or columns, or more than 1,048,576 cells: its size.
-#[derive(Debug, Clone, Copy, PartialEq, Eq, Error)]
-#[error("a matrix of {rows} rows and {cols} columns is past the limits")]
-pub struct TooLarge {
-    pub rows: u32,
-    pub cols: u32,
-}
-
-/// Memory ran out.
-#[derive(Debug, Clone, Copy, PartialEq, Eq, Error)]
-#[error("out of memory")]
-pub struct NoMemory;
 
 /// Why a matrix is not made.
 #[derive(Debug, Clone, Copy, PartialEq, Eq, Error)]
@@ -31,12 +19,6 @@ pub enum MatrixFault {
     TooLarge(TooLarge),
     #[error("out of memory")]
     NoMemory,
-}
-
-impl From<AllocError> for NoMemory {
-    fn from(_e: AllocError) -> NoMemory {
-        NoMemory
-    }
 }
 
 impl From<NoMemory> for MatrixFault {

@@ -5,7 +5,7 @@ use Rattle.cap_matrix.specs.Grid.{Grid, zero_of, stacked_of, fits_limits}
 use Rattle.cap_matrix.specs.Reduced.{IsReducedForm, IsNullBasis, IsRedundant, IsSolution, IsObstruction}
 use Rattle.cap_reduce.specs.declared.solving.Solved.{Solved}
 use Rattle.cap_reduce.specs.declared.solving.Solved.TheVariants.{Row, Obstruction}
-use Rattle.cap_matrix.specs.declared.TooLarge.{TooLarge}
+use Rattle.cap_names.specs.declared.faults.TooLarge.{TooLarge}
 use Rattle.cap_matrix.specs.declared.MatrixFault.{MatrixFault}
 use Rattle.cap_matrix.specs.declared.MatrixFault.TheVariants.{TooLarge as TooLargeFault, NoMemory}
 

@@ -3,7 +3,6 @@
 
 mod elimination;
 mod forms;
-mod items;
 mod laws;
 mod nulls;
 mod obstructed;
@@ -12,8 +11,8 @@ mod solving;
 #[cfg(test)]
 mod tests;
 
+pub use cap_names::Items;
 pub use forms::{reduce_in_place, rref};
-pub use items::Items;
 pub use laws::{
     law_null_basis_exists, law_null_basis_is_kernel, law_obstruction_refutes, law_one_greedy_list,
     law_one_null_basis, law_one_reduced_form, law_one_reduced_matrix, law_one_solution,

@@ -6,10 +6,10 @@ ghost use Rattle.cap_reduce.specs.Flat.{cell};
 ghost use Rattle.cap_reduce.specs.NullTable.{null_value, IsNullColumn};
 
 use crate::elimination::reduce_flat;
-use crate::items::Items;
 use crate::nulls::null_cell;
 use crate::scan::scan_leads;
 use cap_matrix::{Matrix, NoMemory};
+use cap_names::Items;
 use std::alloc::Global;
 
 /// Writes the column that is 1 in a free column, 0 in the others, and 0 at each row of the reduced form.

@@ -6,10 +6,10 @@ ghost use Rattle.cap_reduce.specs.Flat.{cell};
 ghost use Rattle.cap_reduce.specs.NullTable.{IsLeadList, IsSystemTable};
 
 use crate::elimination::reduce_flat;
-use crate::items::Items;
 use crate::obstructed::obstruction;
 use crate::scan::{scan_leads, write_transpose};
 use cap_matrix::{Matrix, NoMemory};
+use cap_names::Items;
 use std::alloc::{AllocError, Global};
 
 /// What a system x·m = v has.

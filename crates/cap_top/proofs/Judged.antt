@@ -3,7 +3,7 @@ use Rattle.std.proofs.Common.{◌≡◌, ℕ, ◌≤◌, List, true, arith}
 use Rattle.cap_field.proofs.Fermat.{tabled_range}
 use Rattle.cap_matrix.specs.Grid.{Grid, fits_limits}
 use Rattle.cap_matrix.specs.Reduced.{IsNullBasis}
-use Rattle.cap_matrix.specs.declared.TooLarge.{TooLarge}
+use Rattle.cap_names.specs.declared.faults.TooLarge.{TooLarge}
 use Rattle.cap_matrix.specs.Grid.{entry}
 use Rattle.cap_reduce.specs.Answers.{IsLargeNullBasis}
 use Rattle.cap_reduce.proofs.NullBasis.{null_basis_is_kernel}
