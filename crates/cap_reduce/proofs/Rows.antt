@@ -1,9 +1,19 @@
 -- Loops that exchange two rows of a flat buffer, and that clear a column.
-use Rattle.std.proofs.Common.{◌≡◌, ◌≢◌, ℕ, ◌+◌, ◌-◌, ◌*◌, ◌%◌, ◌<◌, List, length, set, sym, ap, ◌∙◌, arith, ⊎_elim}
+use Rattle.std.proofs.Common.{◌≡◌, ◌≢◌, ℕ, ◌+◌, ◌-◌, ◌*◌, ◌%◌, ◌<◌, List, length, set, refl, sym, ap, ◌∙◌, arith, ⊎_elim}
 use Rattle.std.proofs.lemmas.List.{length-set, get_or-set_same, get_or-set_other}
 use Rattle.std.proofs.lemmas.Nat.{mul-add-lt, same_from_place}
+use Rattle.std.proofs.Math.Nat.{add-mul-mod_self_left, mod-eq_of_lt}
+use Rattle.cap_matrix.specs.Buffer.{IsRowSoFar}
 use Rattle.std.proofs.lemmas.Bool.{cases_eq}
 use Rattle.cap_reduce.specs.Flat.{cell, IsColumnSoFar, IsSwapSoFar}
+
+-- what the first cells are already need not be written
+pub row_so_far_from : (m : ℕ) (first : List ℕ) (t from : ℕ) (f : ℕ → ℕ) → ((q : ℕ) → q < from → cell first m t q ≡ f q) → IsRowSoFar m first first t from f
+row_so_far_from m first t from f h = record {
+  done = h;
+  later = λ q le lt. refl;
+  others = λ i q lt ne. refl;
+}
 
 pub swap_so_far_more : (m : ℕ) (first now : List ℕ) (a b c n : ℕ) → IsSwapSoFar m first now a b c → length now ≡ n * m → a < b → b < n → c < m
     → IsSwapSoFar m first (set (set now (a * m + c) (cell now m b c)) (b * m + c) (cell now m a c)) a b (c + 1)
@@ -38,6 +48,23 @@ swap_so_far_more m first now a b c n h long ab bn cm =
 pub column_skip : (p m : ℕ) (first now : List ℕ) (row col i : ℕ) → IsColumnSoFar p m first now row col i → i ≡ row → IsColumnSoFar p m first now row col (i + 1)
 column_skip p m first now row col i h e = record {
   done = λ k c lt ne below. h.done k c (omega arith) ne below;
+  later = λ k c le below. h.later k c (omega arith) below;
+  kept = h.kept;
+}
+
+-- and another row that is 0 there already
+pub column_zero : (p m : ℕ) (first now : List ℕ) (row col i : ℕ) → IsColumnSoFar p m first now row col i → col < m → cell now m i col ≡ 0
+    → ((c : ℕ) → c < m → cell now m i c < p) → IsColumnSoFar p m first now row col (i + 1)
+column_zero p m first now row col i h cm zero_there small = record {
+  done = λ k c lt ne below. ⊎_elim
+      (λ same. let inner = h.later i c (omega arith) below in
+      ap (λ y. cell now m y c) same ∙ inner
+      ∙ sym (ap (λ y. (cell first m y c + (p - cell first m y col) * cell first m row c) % p) same
+      ∙ ap (λ y. (cell first m i c + (p - y) * cell first m row c) % p) (sym (h.later i col (omega arith) cm) ∙ zero_there)
+      ∙ ap (λ y. (cell first m i c + y * cell first m row c) % p) (let s : p - 0 ≡ p = omega arith in s)
+      ∙ add-mul-mod_self_left (cell first m i c) p (cell first m row c)
+      ∙ mod-eq_of_lt (let s = small c below in omega arith)))
+      (λ other. h.done k c (omega arith) ne below) (cases_eq k i);
   later = λ k c le below. h.later k c (omega arith) below;
   kept = h.kept;
 }

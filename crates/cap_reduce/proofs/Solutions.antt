@@ -9,7 +9,7 @@ use Rattle.cap_field.proofs.Fermat.{tabled_range}
 use Rattle.cap_matrix.specs.Grid.{Grid, IsMatrix, entry, total, row_by, row_times}
 use Rattle.cap_matrix.proofs.Sums.{total-same, total-zeros, total-swap, total-scale_right, total-mod, total-one, times_assoc}
 use Rattle.cap_matrix.proofs.Rows.{length-row_by, row_by-at, row_by-same}
-use Rattle.cap_matrix.specs.Reduced.{InSpan, IsReducedBy, IsSolution}
+use Rattle.cap_matrix.specs.Reduced.{InSpan, IsInSpan, IsReducedBy, IsSolution}
 use Rattle.cap_reduce.proofs.Unique.{find_among, known_at_leads}
 use Rattle.cap_reduce.proofs.Columns.{factor, column_by_leads, lead_is_new}
 use Rattle.cap_reduce.specs.Laws.{SolutionExists, OneSolution}
@@ -182,3 +182,7 @@ one_solution p t m v x y IM X Y =
     let sx : get_or x i 0 < p = subst (λ q. get_or x i 0 < q) IM.prime (X.residues i inner) in
     let sy : get_or y i 0 < p = subst (λ q. get_or y i 0 < q) IM.prime (Y.residues i inner) in
     sym (mod-eq_of_lt sx) ∙ agree i inner ∙ mod-eq_of_lt sy)
+
+-- and only a row in the span has one
+pub solution_in_span : (m : Grid) (v x : List ℕ) → IsSolution m v x → IsInSpan m v
+solution_in_span m v x s = (x, s.long, sym s.gives)

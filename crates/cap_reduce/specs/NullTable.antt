@@ -1,4 +1,4 @@
--- The null rows of a matrix, read off the reduced form of its transpose with the columns in reverse order.
+-- What the code finds on the way: the leads of reduced rows, null columns and rows read off them, the table of a system.
 use Rattle.std.specs.Prelude.{◌≡◌, ◌≢◌, ◌⊎◌, ℕ, ◌+◌, ◌-◌, ◌*◌, ◌%◌, ◌<◌, ◌≤◌, ◌==◌, nat_lt, if◌then◌else◌, true, Result, List, length, slice_index}
 use Rattle.std.specs.List.{Contains}
 use Rattle.cap_field.specs.Residue.{is_tabled}

@@ -57,7 +57,8 @@ fn scale_row(cells: &mut [u16], rows: usize, cols: usize, row: usize, factor: u1
     }
 }
 
-/// Adds a multiple of a row that stands elsewhere, and is 0 before column `from`, to a row, in numbers of 16 bits. `m` is 2 ^ 16 / p.
+/// Adds a multiple of a row that stands elsewhere, and is 0 before a column, to a row, in numbers of 16 bits.
+/// `m` is 2 ^ 16 / p.
 #[tactic(auto, using(std::proofs::lemmas::Nat::rows))]
 fn add_row(
     cells: &mut [u16],
@@ -78,7 +79,7 @@ fn add_row(
     requires ratio { m ≡ 65536 / p }
     requires factor { factor ≤ p }
     requires start { from ≤ cols }
-    requires bare { (c : ℕ) → c < from → slice_index source.now c ≡ 0 }
+    requires before { (c : ℕ) → c < from → slice_index source.now c ≡ 0 }
     requires source_small { (c : ℕ) → c < cols → slice_index source.now c < p }
     requires to_small { (c : ℕ) → c < cols → cell cells.old cols to c < p }
     ensures added { (c : ℕ) → c < cols → cell cells.new cols to c ≡ (cell cells.old cols to c + factor * slice_index source.now c) % p }
@@ -115,38 +116,6 @@ fn bring_up(cells: &mut [u16], rows: usize, cols: usize, to: usize, from: usize)
     }
 }
 
-/// Takes a multiple of a row that stands elsewhere, and is 0 before column `col`, from a row, so that a 1 in that column there
-/// leaves a 0 here. A row that has a 0 there stays.
-#[tactic(auto, using(std::proofs::lemmas::Nat::rows))]
-fn clear_entry(
-    cells: &mut [u16],
-    rows: usize,
-    cols: usize,
-    to: usize,
-    source: &[u16],
-    col: usize,
-    p: u16,
-    m: u16,
-)
-    requires size { length cells.old ≡ rows * cols }
-    requires width { length source.now ≡ cols }
-    requires to_within { to < rows }
-    requires column { col < cols }
-    requires low { 2 ≤ p }
-    requires high { p ≤ 251 }
-    requires ratio { m ≡ 65536 / p }
-    requires bare { (c : ℕ) → c < col → slice_index source.now c ≡ 0 }
-    requires source_small { (c : ℕ) → c < cols → slice_index source.now c < p }
-    requires to_small { (c : ℕ) → c < cols → cell cells.old cols to c < p }
-    ensures cleared { (c : ℕ) → c < cols → cell cells.new cols to c ≡ (cell cells.old cols to c + (p - cell cells.old cols to col) * slice_index source.now c) % p }
-    ensures others { (i c : ℕ) → c < cols → i ≢ to → cell cells.new cols i c ≡ cell cells.old cols i c }
-{
-    let x = cells[to * cols + col];
-    if x != 0 {
-        add_row(cells, rows, cols, to, source, col, p - x, p, m);
-    }
-}
-
 /// Takes multiples of a row, whose entry in a column is 1, from all others, so that theirs there are 0.
 #[tactic(auto, using(std::proofs::lemmas::Nat::rows))]
 fn clear_column(
@@ -162,7 +131,7 @@ fn clear_column(
     requires size { length cells.old ≡ rows * cols }
     requires width { length source.now ≡ cols }
     requires copied { (c : ℕ) → c < cols → slice_index source.now c ≡ cell cells.old cols row c }
-    requires bare { (c : ℕ) → c < col → slice_index source.now c ≡ 0 }
+    requires before { (c : ℕ) → c < col → slice_index source.now c ≡ 0 }
     requires within { row < rows }
     requires column { col < cols }
     requires low { 2 ≤ p }
@@ -172,8 +141,9 @@ fn clear_column(
     ensures { IsColumnSoFar p cols cells.old cells.new row col rows }
 {
     for i in 0..rows {
-        if i != row {
-            clear_entry(cells, rows, cols, i, source, col, p, m);
+        let entry = cells[i * cols + col];
+        if i != row && entry != 0 {
+            add_row(cells, rows, cols, i, source, col, p - entry, p, m);
         }
     }
 }
@@ -194,7 +164,7 @@ fn pivot(
     requires within { row < rows }
     requires column { col < cols }
     requires some { cell cells.old cols row col ≢ 0 }
-    requires bare { (c : ℕ) → c < col → cell cells.old cols row c ≡ 0 }
+    requires before { (c : ℕ) → c < col → cell cells.old cols row c ≡ 0 }
     requires residues { (i c : ℕ) → i < rows → c < cols → cell cells.old cols i c < field }
     ensures big { 2 ≤ field }
     ensures pivoted { (b : ℕ) × IsPivoted field rows cols (cell cells.old cols) (cell cells.new cols) row col b }
@@ -220,11 +190,9 @@ fn clear_next(
     requires size { length cells.old ≡ rows * cols }
     requires width { length space.old ≡ cols }
     requires column { col < cols }
-    requires bare { (i c : ℕ) → done ≤ i → i < rows → c < col → cell cells.old cols i c ≡ 0 }
-    requires residues { (i c : ℕ) → i < rows → c < cols → cell cells.old cols i c < field }
+    requires cleared { (lead : ℕ → ℕ) × IsCleared field rows cols (cell cells.old cols) lead done col }
     ensures span { IsSameSpan field rows cols (cell cells.old cols) (cell cells.new cols) }
-    ensures cleared { (lead : ℕ → ℕ) → IsCleared field rows cols (cell cells.old cols) lead done col
-        → (next : ℕ → ℕ) × IsCleared field rows cols (cell cells.new cols) next result (col + 1) }
+    ensures cleared { (lead : ℕ → ℕ) × IsCleared field rows cols (cell cells.new cols) lead result (col + 1) }
 {
     match pivot_row(cells, rows, cols, done, col) {
         None => done,
@@ -258,7 +226,7 @@ fn reduce_with(
 }
 
 /// Reduces the rows of a flat buffer, and answers how many are not 0.
-pub fn reduce_flat(cells: &mut [u16], field: Field, rows: usize, cols: usize) -> usize
+pub(crate) fn reduce_flat(cells: &mut [u16], field: Field, rows: usize, cols: usize) -> usize
     requires size { length cells.old ≡ rows * cols }
     requires narrow { cols ≤ 4096 }
     requires residues { (i c : ℕ) → i < rows → c < cols → cell cells.old cols i c < field }

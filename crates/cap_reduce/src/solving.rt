@@ -21,6 +21,9 @@ pub enum Solved {
     Obstruction(Items<u16>),
 }
 
+/// Numbers of rows, from 0.
+pub type Rows = Items<u32>;
+
 /// The columns whose place is below `rank`, in order.
 fn lead_list(
     alloc: Global,
@@ -42,7 +45,7 @@ fn lead_list(
 }
 
 /// The rows that are not in the span of the rows before them, in order, from 0.
-pub fn greedy(alloc: Global, m: &Matrix) -> Result<Items<u32>, NoMemory>
+pub fn greedy(alloc: Global, m: &Matrix) -> Result<Rows, NoMemory>
     ensures { IfOk result (λ rows. IsGreedy m.now rows) }
 {
     let rows = m.rows() as usize;

@@ -8,8 +8,9 @@ pub returns-in-None-clause-span : goal.returns-in-None-clause-span
 returns-in-None-clause-span c = same_span_refl c.args.field c.args.rows c.args.cols (cell c.args.cells.now c.args.cols)
 
 pub returns-in-None-clause-cleared : goal.returns-in-None-clause-cleared
-returns-in-None-clause-cleared c = λ lead h.
-    (lead, cleared_skip c.args.field c.args.rows c.args.cols (cell c.args.cells.now c.args.cols) lead c.args.done c.args.col h c.in-None.ensures)
+returns-in-None-clause-cleared c =
+    let lead = c.requires.cleared.0 in
+    (lead, cleared_skip c.args.field c.args.rows c.args.cols (cell c.args.cells.now c.args.cols) lead c.args.done c.args.col c.requires.cleared.1 c.in-None.ensures)
 
 pub returns-in-Some-clause-span : goal.returns-in-Some-clause-span
 returns-in-Some-clause-span c =
@@ -19,14 +20,16 @@ returns-in-Some-clause-span c =
     let low = c.in-Some.ensures.0 in
     let within = c.in-Some.ensures.1 in
     let top : c.args.done < c.args.rows = omega arith in
-    let small = swapped_residues c.args.field c.args.rows c.args.cols first mid c.args.done c.in-Some.found top within c.bring_up.ensures c.requires.residues in
+    let small = swapped_residues c.args.field c.args.rows c.args.cols first mid c.args.done c.in-Some.found top within c.bring_up.ensures c.requires.cleared.1.residues in
     same_span_trans c.args.field c.args.rows c.args.cols first mid last
     (same_span_swap c.args.field c.args.rows c.args.cols first mid c.args.done c.in-Some.found top within c.bring_up.ensures)
     (same_span_pivot c.args.field c.args.rows c.args.cols mid last c.args.done c.args.col c.pivot.ensures.pivoted.0 top c.requires.column
     (λ i lt. small i c.args.col lt c.requires.column) c.pivot.ensures.pivoted.1)
 
 pub returns-in-Some-clause-cleared : goal.returns-in-Some-clause-cleared
-returns-in-Some-clause-cleared c = λ lead h.
+returns-in-Some-clause-cleared c =
+    let lead = c.requires.cleared.0 in
+    let h = c.requires.cleared.1 in
     let first = cell c.args.cells.now c.args.cols in
     let mid = cell c.bring_up.new.cells c.args.cols in
     let last = cell c.pivot.new.cells c.args.cols in

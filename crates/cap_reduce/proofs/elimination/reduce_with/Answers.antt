@@ -13,5 +13,5 @@ pub loop-col-preserved : goal.loop-col-preserved
 loop-col-preserved c = record {
   span = same_span_trans c.args.field c.args.rows c.args.cols (cell c.args.cells.now c.args.cols) (cell c.loop-col.cells c.args.cols)
       (cell c.clear_next-done.new.cells c.args.cols) c.loop-col.invariant.span c.clear_next-done.ensures.span;
-  cleared = c.clear_next-done.ensures.cleared c.loop-col.invariant.cleared.0 c.loop-col.invariant.cleared.1;
+  cleared = c.clear_next-done.ensures.cleared;
 }
