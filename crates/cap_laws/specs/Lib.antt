@@ -1,0 +1,10 @@
+pub mod Answers
+pub mod Linear
+pub mod Factor
+pub mod Universal
+pub mod Systems
+pub mod Split
+pub mod NullCategory
+pub mod Table
+pub mod Statements
+pub mod Scalars

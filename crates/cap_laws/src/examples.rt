@@ -1,0 +1,3 @@
+// Small categories that meet the traits: no trait asks the impossible.
+mod null;
+mod scalars;

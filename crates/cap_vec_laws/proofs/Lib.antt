@@ -1,0 +1,11 @@
+pub mod Arrows
+pub mod Linear
+pub mod Splits
+pub mod DirectSum
+pub mod Abelian
+pub mod Kernels
+pub mod Cokernels
+pub mod Pullback
+pub mod Lifts
+pub mod RowLifts
+pub mod Members
