@@ -1,5 +1,5 @@
 -- The null-row basis of a small matrix answers its script, and keeps the limits.
-use Rattle.std.proofs.Common.{◌≡◌, ℕ, ◌≤◌, List, true, arith}
+use Rattle.std.proofs.Common.{refl, ◌≡◌, ℕ, ◌≤◌, List, true, arith}
 use Rattle.cap_field.proofs.Fermat.{tabled_range}
 use Rattle.cap_matrix.specs.Grid.{Grid, fits_limits}
 use Rattle.cap_matrix.specs.Reduced.{IsNullBasis}
@@ -8,6 +8,7 @@ use Rattle.cap_matrix.specs.Grid.{entry}
 use Rattle.cap_reduce.specs.Answers.{IsLargeNullBasis}
 use Rattle.cap_reduce.proofs.NullBasis.{null_basis_is_kernel}
 use Rattle.cap_reduce.proofs.NullAnswer.{few_leads}
+use Rattle.cap_vec_laws.proofs.Kernels.{kernel-from-basis}
 use Rattle.cap_top.specs.Text.{script_of, output_of}
 use Rattle.cap_top.specs.Form.{IsSmall, IsAnswer}
 use Rattle.cap_top.proofs.Values.{small_fits}
@@ -17,7 +18,8 @@ answer_by_basis bytes text f k small script basis output = record {
   form = record { matrix = f; small = small; script = script };
   kernel = k;
   reduced = basis.reduced;
-  is_kernel = null_basis_is_kernel f.prime (tabled_range f.prime small.tabled).0 f k small.matrix basis;
+  is_kernel = kernel-from-basis (tabled_range f.prime small.tabled).0 (record { is = small.matrix; from = refl; to = refl }) basis;
+  in_matrices = null_basis_is_kernel f.prime (tabled_range f.prime small.tabled).0 f k small.matrix basis;
   output = output;
 }
 
