@@ -1,5 +1,5 @@
 -- The answer of a call after another that met only sizes within the limit.
-use Rattle.std.proofs.Common.{◌≡◌, ◌⊎◌, inl, inr, Result, Ok, Err, refl, sym}
+use Rattle.std.proofs.Common.{◌≡◌, ◌⊎◌, inl, inr, Result, Ok, Err, IfOk, refl, sym}
 use Rattle.cap_laws.specs.declared.faults.CatFault.{CatFault}
 use Rattle.cap_laws.specs.declared.faults.CatFault.TheVariants.{TooLarge, NoMemory}
 use Rattle.cap_laws.specs.Answers.{Size, Fits, Answers}
@@ -13,6 +13,11 @@ pub answers-after : {A : Type 0} (met met' : Size → Type 0) (right right' : A 
 answers-after met met' right right' h k (Ok x) a = (k x a.0, either-fits met met' h a.1)
 answers-after met met' right right' h k (Err (TooLarge rows columns)) a = record { size = a.size; is_met = inr a.is_met; past = a.past; rows_named = a.rows_named; columns_named = a.columns_named }
 answers-after met met' right right' h k (Err NoMemory) a = tt
+
+-- what a right answer has
+pub answer-gives : {A : Type 0} (met : Size → Type 0) (right P : A → Type 0) → (r : Result A CatFault) → Answers met right r → ((x : A) → right x → P x) → IfOk r P
+answer-gives met right P (Ok x) a k = k x a.0
+answer-gives met right P (Err e) a k = tt
 
 -- two morphisms with equal ends, and their difference
 pub first-arrow : {Obj Mor : Type 0} (C : CategoryData Obj Mor) (f : Mor) → C.is_morphism f → Arrow C (C.source f) (C.target f) f

@@ -1,4 +1,4 @@
-//! Names, numbers, lists and faults that the crates above share.
+//! Names, numbers, tokens, literals, lists and faults that the crates above share.
 #![tactic(auto)]
 
 mod faults;

@@ -2,6 +2,8 @@
 ghost use Rattle.std.specs.Prelude.{◌≡◌};
 ghost use Rattle.cap_names.specs.Reasons.{reason_word};
 
+use thiserror::Error;
+
 /// Why a script is refused.
 #[derive(Debug, Clone, Copy, PartialEq, Eq)]
 pub enum Reason {
@@ -39,7 +41,8 @@ impl Reason {
 }
 
 /// The first fault of a script: its line and column, both from 1 and in bytes, and what is wrong there.
-#[derive(Debug, Clone, Copy, PartialEq, Eq)]
+#[derive(Debug, Clone, Copy, PartialEq, Eq, Error)]
+#[error("bad script: line {line} column {column} {}", .reason.word())]
 pub struct BadScript {
     pub line: u32,
     pub column: u32,

@@ -1,7 +1,7 @@
 // What no clause says: worked examples, printed text, and that calls which want memory succeed.
 use crate::{
-    EntryLit, Items, MatLit, Name, NoMemory, ObjLit, OpId, Reason, TokenFault, TokenKind, TooLarge,
-    line_column, op_by_name, op_name, tokens,
+    BadScript, EntryLit, Items, MatLit, Name, NoMemory, ObjLit, OpId, Reason, TokenFault,
+    TokenKind, TooLarge, line_column, op_by_name, op_name, tokens,
 };
 use std::alloc::{AllocError, Global};
 use std::collections::HashSet;
@@ -168,6 +168,15 @@ fn reasons_and_faults_have_these_texts(rt: HostRuntime) -> Result<(), Fail> {
     assert_eq!(rt;
         size.to_string(rt.alloc())?.as_str(),
         "a matrix of 1 rows and 3000 columns is past the limits"
+    );
+    let fault = BadScript {
+        line: 3,
+        column: 22,
+        reason: Reason::Syntax,
+    };
+    assert_eq!(rt;
+        fault.to_string(rt.alloc())?.as_str(),
+        "bad script: line 3 column 22 syntax"
     );
     assert_eq!(rt; NoMemory.to_string(rt.alloc())?.as_str(), "out of memory");
     assert_eq!(rt;

@@ -18,9 +18,19 @@ pub struct Null {
     pub to: u32,
 }
 
+#[derive(Drop)]
 pub struct NullCategory {
     pub field: Field,
     ghost tabled: { is_tabled field ≡ true },
+}
+
+impl NullCategory {
+    pub fn new(field: Field) -> NullCategory
+        ensures { result.field ≡ field }
+    {
+        let _prime = field.prime();
+        NullCategory { field }
+    }
 }
 
 fn checked(rows: u32, cols: u32) -> Result<Null, CatFault>
@@ -225,15 +235,12 @@ impl Abelian for NullCategory {
 
     ghost colift_meets = { λ c f t s. s ≡ null_size f.to t.to };
 
-    fn kernel(&self, _alloc: Global, f: &Null) -> Result<Null, CatFault> {
-        Ok(Null {
-            from: 0,
-            to: f.from,
-        })
+    fn kernel(&self, alloc: Global, f: &Null) -> Result<Null, CatFault> {
+        self.weak_kernel(alloc, f)
     }
 
-    fn cokernel(&self, _alloc: Global, f: &Null) -> Result<Null, CatFault> {
-        Ok(Null { from: f.to, to: 0 })
+    fn cokernel(&self, alloc: Global, f: &Null) -> Result<Null, CatFault> {
+        self.weak_cokernel(alloc, f)
     }
 
     fn lift(&self, _alloc: Global, t: &Null, b: &Null) -> Result<Option<Null>, CatFault> {

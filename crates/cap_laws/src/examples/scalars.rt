@@ -1,7 +1,7 @@
 // One object, whose morphisms are the residues: the combinations of the table whose only basis element is its unit.
 ghost use Rattle.std.specs.Prelude.{◌≡◌, ℕ, ◌<◌, true, [], ◌∷◌};
 ghost use Rattle.cap_field.specs.Residue.{is_tabled};
-ghost use Rattle.cap_laws.specs.Scalars.{scalar, unit_at};
+ghost use Rattle.cap_laws.specs.Scalars.{scalar, value_of, unit_at};
 
 use crate::{Cat, CatFault, Preadditive, Table, WeakCokernels, WeakKernels};
 use cap_field::Field;
@@ -33,8 +33,15 @@ impl Scalar {
     {
         Scalar { end: 0, value }
     }
+
+    pub fn value(&self) -> u16
+        ensures { result ≡ value_of self.now }
+    {
+        self.value
+    }
 }
 
+#[derive(Drop)]
 pub struct Scalars {
     field: Field,
     basis: [u32; 1],
