@@ -10,3 +10,4 @@ pub mod Blocks
 pub mod Split
 pub mod Systems
 pub mod Sizes
+mod Worked

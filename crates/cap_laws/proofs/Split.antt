@@ -3,7 +3,7 @@ use Rattle.std.proofs.Common.{◌⊎◌, inl, inr, Option}
 use Rattle.std.specs.Prelude.{Some, None}
 use Rattle.cap_laws.specs.Linear.{CategoryData, IsLinear, Arrow, Same}
 use Rattle.cap_laws.specs.Split.{HasReturn, HasSplit, HasSplits}
-use Rattle.cap_laws.specs.Universal.{subtract, opposite, Some-arrow, IsLift, IsMono, IsKernel, IsCokernel, HasKernel, HasHalfAbelian}
+use Rattle.cap_laws.specs.Universal.{subtract, opposite, Some-arrow, IsLift, IsMono, IsKernel, IsCokernel, HasKernel, HasHalfAbelian, IsAdditive, IsAbelian}
 use Rattle.cap_laws.proofs.Calculus.{from-object, to-object, same, back, ◌⟫◌ as join, composed, assoc, unit-left, unit-right, zero-of, compose-zero, zero-compose, subtract-arrow, subtract-compose, compose-subtract, subtract-from-equal, equal-from-subtract, equal-after, subtracted, added, zero-add, add-zero, add-negate, negate-arrow}
 use Rattle.cap_laws.proofs.Opposite.{turn, turned, turn-same, turned-same, opposite-linear}
 
@@ -198,3 +198,6 @@ half-abelian-opposite L S =
           kernel-from-split O F r (opposite-split L (turned (rest-arrow O F r)) (turned-same (rest-twice O F r)) (S.split (turned (rest-arrow O F r))));
       mono_is_kernel = λ m K. mono-is-kernel O m (return-opposite L S m.arrow) K;
     }
+
+pub abelian-from-splits : {Obj Mor : Type 0} {C : CategoryData Obj Mor} → IsLinear C → IsAdditive C → HasSplits C → IsAbelian C
+abelian-from-splits L A S = record { additive = A; kernels = half-abelian L S; cokernels = half-abelian-opposite L S }

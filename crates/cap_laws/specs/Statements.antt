@@ -1,10 +1,10 @@
 -- The laws of the calculus, as statements on the data of a category.
-use Rattle.std.specs.Prelude.{ℕ, ◌↔◌, List}
+use Rattle.std.specs.Prelude.{ℕ, ◌↔◌, List, Option}
 use Rattle.cap_laws.specs.Linear.{CategoryData, Arrow, Same}
-use Rattle.cap_laws.specs.Universal.{opposite, negate, subtract, IsMono, IsWeakKernel, IsKernel, IsDirectSum, HasHalfAbelian, IsoOver}
+use Rattle.cap_laws.specs.Universal.{opposite, negate, subtract, IsMono, IsWeakKernel, IsKernel, IsDirectSum, IsLift, IsColift, HasHalfAbelian, IsoOver}
 use Rattle.cap_laws.specs.Factor.{Through, IsPreimage, rows}
 use Rattle.cap_laws.specs.Split.{HasSplits}
-use Rattle.cap_laws.specs.Systems.{IsSystem, IsSolution, one_system}
+use Rattle.cap_laws.specs.Systems.{IsSystem, IsSolution, AnswersSystem, term_system, one_system, first_of}
 
 -- congruent morphisms may be put for one another in composites, sums and multiples
 pub record CongruenceCalculus {Obj Mor : Type 0} (C : CategoryData Obj Mor) : Type 0 where
@@ -66,7 +66,9 @@ pub record SplitsGiveHalves {Obj Mor : Type 0} (C : CategoryData Obj Mor) : Type
   pub kernels : HasSplits C → HasHalfAbelian C
   pub cokernels : HasSplits C → HasHalfAbelian (opposite C)
 
--- X·r = v is a system, and it has a solution exactly where v factors through r
+-- X·r = v has a solution exactly where v factors through r; an answer of X·f = t is one of a lift, and of f·X = t one of a colift
 pub record FactoringBySystem {Obj Mor : Type 0} (C : CategoryData Obj Mor) : Type 0 where
-  pub system : {x y q : Obj} {r v : Mor} → Arrow C y q r → Arrow C x q v → IsSystem C (one_system C x y r v)
+  pub system : {p q x y : Obj} {l r v : Mor} → Arrow C p x l → Arrow C y q r → Arrow C p q v → IsSystem C (term_system x y l r v)
   pub law : {x y q : Obj} {r v : Mor} → Arrow C y q r → Arrow C x q v → Through C x y q r v ↔ ((xs : List Mor) × IsSolution C (one_system C x y r v) xs)
+  pub lift : {x a b : Obj} {t f : Mor} → Arrow C x b t → Arrow C a b f → (answer : Option (List Mor)) → AnswersSystem C (one_system C x a f t) answer → IsLift C x a b t f (first_of t answer)
+  pub colift : {c a x : Obj} {f t : Mor} → Arrow C c a f → Arrow C c x t → (answer : Option (List Mor)) → AnswersSystem C (term_system a x f (C.identity x) t) answer → IsColift C c a x f t (first_of t answer)

@@ -52,9 +52,15 @@ AnswersSystem {Obj} {Mor} C s None = (xs : List Mor) → IsSolution C s xs → �
 abbrev pub term_of : {Mor : Type 0} → Mor → ℕ → Mor → Term Mor
 term_of l n r = record { left = l; unknown = n; right = r }
 
+-- l·X·r = v in one unknown X: x→y
+abbrev pub term_system : {Obj Mor : Type 0} → Obj → Obj → Mor → Mor → Mor → System Obj Mor
+term_system x y l r v = record { unknowns = (x, y) ∷ []; equations = record { terms = term_of l 0 r ∷ []; value = v } ∷ [] }
+
 -- X·r = v in one unknown X: x→y
 abbrev pub one_system : {Obj Mor : Type 0} → CategoryData Obj Mor → Obj → Obj → Mor → Mor → System Obj Mor
-one_system C x y r v = record {
-  unknowns = (x, y) ∷ [];
-  equations = record { terms = term_of (C.identity x) 0 r ∷ []; value = v } ∷ [];
-}
+one_system C x y r v = term_system x y (C.identity x) r v
+
+-- the morphism for the first unknown, or none
+abbrev pub first_of : {Mor : Type 0} → Mor → Option (List Mor) → Option Mor
+first_of d (Some xs) = Some (get_or xs 0 d)
+first_of d None = None

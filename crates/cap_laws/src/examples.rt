@@ -3,3 +3,6 @@ mod null;
 mod scalars;
 #[cfg(test)]
 mod tests;
+
+pub use null::{Null, NullCategory};
+pub use scalars::{Scalar, Scalars};

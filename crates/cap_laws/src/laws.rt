@@ -61,7 +61,7 @@ pub fn splits_give_kernels<C: Cat>()
     ensures { (c : C) → SplitsGiveHalves (C.category c) }
 {}
 
-/// A morphism factors through another exactly where a system in one unknown has a solution.
+/// A morphism factors through another exactly where a system in one unknown has a solution, and the answer of such a system is that of a lift or a colift.
 pub fn factoring_by_a_system<C: Cat>()
     ensures { (c : C) → FactoringBySystem (C.category c) }
 {}

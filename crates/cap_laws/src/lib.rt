@@ -2,7 +2,7 @@
 #![tactic(auto)]
 
 mod category;
-mod examples;
+pub mod examples;
 mod faults;
 pub mod laws;
 mod table;
