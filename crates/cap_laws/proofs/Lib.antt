@@ -10,4 +10,5 @@ pub mod Blocks
 pub mod Split
 pub mod Systems
 pub mod Sizes
+pub mod Tables
 mod Worked

@@ -28,7 +28,7 @@ pub record Same {Obj Mor : Type 0} (C : CategoryData Obj Mor) (a b : Obj) (f g :
   pub right : Arrow C a b g
   pub congruent : C.congruent f g
 
--- the laws of a linear category, up to congruence: composition is associative and bilinear with units, morphisms a→b are a vector space
+-- a linear category over the field of p elements: a category enriched in vector spaces, all laws up to congruence
 pub record IsLinear {Obj Mor : Type 0} (C : CategoryData Obj Mor) : Type 0 where
   pub prime_tabled : is_tabled C.prime ≡ true
   pub source_object : (f : Mor) → C.is_morphism f → C.is_object (C.source f)

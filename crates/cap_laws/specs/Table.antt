@@ -1,5 +1,5 @@
 -- Multiplication tables: a finite linear category, given by a basis of the morphisms between each two objects.
-use Rattle.std.specs.Prelude.{◌≡◌, ℕ, zero, suc, ◌+◌, ◌*◌, ◌%◌, ◌<◌, ◌≤◌, ◌==◌, ◌&&◌, List, map, filter, length, slice_index, slice_index_or}
+use Rattle.std.specs.Prelude.{◌≡◌, ℕ, zero, suc, ◌+◌, ◌*◌, ◌%◌, ◌<◌, ◌≤◌, ◌==◌, ◌&&◌, List, map, filter, length, slice_index, slice_index_or, if◌then◌else◌}
 use Rattle.std.specs.List.{range_with_len}
 use Rattle.cap_laws.specs.Linear.{CategoryData, IsLinear}
 
@@ -49,6 +49,14 @@ pub record IsCombination (T : TableData) (f : Combination) : Type 0 where
   pub to : f.to < T.objects
   pub row : IsRow T f.from f.to f.coefficients
 
+-- the basis element b as a combination: 1 at its own place, and 0 elsewhere
+abbrev pub element_of : TableData → ℕ → Combination
+element_of T b = record {
+  from = (ends_of T b).0;
+  to = (ends_of T b).1;
+  coefficients = row_below (width_of T (ends_of T b).0 (ends_of T b).1) (λ k. if slice_index (hom_of T (ends_of T b).0 (ends_of T b).1) k == b then 1 else 0);
+}
+
 -- f·g, extended linearly: the sum of the products of the basis elements of f and of g, each times its two coefficients
 abbrev pub composed_of : TableData → Combination → Combination → Combination
 composed_of T f g =
@@ -86,3 +94,8 @@ pub record IsTable (T : TableData) : Type 0 where
   pub ends : (b : ℕ) → b < length T.basis → ((ends_of T b).0 < T.objects) × ((ends_of T b).1 < T.objects)
   pub products : (i j : ℕ) → i < length T.basis → j < length T.basis → (ends_of T i).1 ≡ (ends_of T j).0 → IsRow T (ends_of T i).0 (ends_of T j).1 (T.product i j)
   pub linear : IsLinear (table_data T)
+
+-- the composite of two basis elements that meet is the product that the table tells
+pub record BasisProducts (T : TableData) : Type 0 where
+  pub law : (i j : ℕ) → i < length T.basis → j < length T.basis → (ends_of T i).1 ≡ (ends_of T j).0
+      → composed_of T (element_of T i) (element_of T j) ≡ record { from = (ends_of T i).0; to = (ends_of T j).1; coefficients = T.product i j }

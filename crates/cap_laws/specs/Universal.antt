@@ -46,12 +46,12 @@ abbrev pub OrNone : {Obj Mor : Type 0} → CategoryData Obj Mor → Obj → Obj 
 OrNone C x k P (Some u) = Arrow C x k u × P u
 OrNone C x k P None = Some-arrow C x k P → ⊥
 
--- f: a→b is mono: u·f = 0 gives u = 0, for every u into a
+-- f: a→b is mono: u·f = 0 only where u = 0
 pub record IsMono {Obj Mor : Type 0} (C : CategoryData Obj Mor) (a b : Obj) (f : Mor) : Type 0 where
   pub arrow : Arrow C a b f
   pub cancel : {x : Obj} {u : Mor} → Arrow C x a u → Same C x b (C.compose u f) (C.zero x b) → Same C x a u (C.zero x a)
 
--- f: a→b is epi: f·u = 0 gives u = 0, for every u out of b
+-- f: a→b is epi: f·u = 0 only where u = 0
 abbrev pub IsEpi : {Obj Mor : Type 0} → CategoryData Obj Mor → Obj → Obj → Mor → Type 0
 IsEpi C a b f = IsMono (opposite C) b a f
 
@@ -86,33 +86,33 @@ pub record IsIso {Obj Mor : Type 0} (C : CategoryData Obj Mor) (a b : Obj) (f : 
   pub inverse : Mor
   pub is : IsInverse C a b f inverse
 
--- i: k→a is a weak kernel of f: a→b: i·f = 0, and every t with t·f = 0 is some u·i
+-- i: k→a is a weak kernel of f: a→b: i·f = 0, and whatever f sends to 0 is u·i for some u
 pub record IsWeakKernel {Obj Mor : Type 0} (C : CategoryData Obj Mor) (k a b : Obj) (f i : Mor) : Type 0 where
   pub arrow : Arrow C k a i
   pub zero : Same C k b (C.compose i f) (C.zero k b)
   pub lift : {x : Obj} {t : Mor} → Arrow C x a t → Same C x b (C.compose t f) (C.zero x b) → Some-arrow C x k (λ u. Same C x a (C.compose u i) t)
 
--- i: k→a is a kernel of f: a→b: i·f = 0, and every t with t·f = 0 is u·i for a unique u
+-- i: k→a is a kernel of f: a→b: i·f = 0, and whatever f sends to 0 is u·i for exactly one u
 pub record IsKernel {Obj Mor : Type 0} (C : CategoryData Obj Mor) (k a b : Obj) (f i : Mor) : Type 0 where
   pub arrow : Arrow C k a i
   pub zero : Same C k b (C.compose i f) (C.zero k b)
   pub lift : {x : Obj} {t : Mor} → Arrow C x a t → Same C x b (C.compose t f) (C.zero x b) → Unique C x k (λ u. Same C x a (C.compose u i) t)
 
--- p: b→c is a weak cokernel of f: a→b: f·p = 0, and every t with f·t = 0 is some p·u
+-- p: b→c is a weak cokernel of f: a→b: f·p = 0, and whatever is 0 after f is p·u for some u
 abbrev pub IsWeakCokernel : {Obj Mor : Type 0} → CategoryData Obj Mor → Obj → Obj → Obj → Mor → Mor → Type 0
 IsWeakCokernel C a b c f p = IsWeakKernel (opposite C) c b a f p
 
--- p: b→c is a cokernel of f: a→b: f·p = 0, and every t with f·t = 0 is p·u for a unique u
+-- p: b→c is a cokernel of f: a→b: f·p = 0, and whatever is 0 after f is p·u for exactly one u
 abbrev pub IsCokernel : {Obj Mor : Type 0} → CategoryData Obj Mor → Obj → Obj → Obj → Mor → Mor → Type 0
 IsCokernel C a b c f p = IsKernel (opposite C) c b a f p
 
--- e: k→a is an equalizer of f, g: a→b: e·f = e·g, and every t with t·f = t·g is u·e for a unique u
+-- e: k→a is an equalizer of f, g: a→b: e·f = e·g, and whatever f and g agree on is u·e for exactly one u
 pub record IsEqualizer {Obj Mor : Type 0} (C : CategoryData Obj Mor) (k a b : Obj) (f g e : Mor) : Type 0 where
   pub arrow : Arrow C k a e
   pub equal : Same C k b (C.compose e f) (C.compose e g)
   pub lift : {x : Obj} {t : Mor} → Arrow C x a t → Same C x b (C.compose t f) (C.compose t g) → Unique C x k (λ u. Same C x a (C.compose u e) t)
 
--- q: b→c is a coequalizer of f, g: a→b: f·q = g·q, and every t with f·t = g·t is q·u for a unique u
+-- q: b→c is a coequalizer of f, g: a→b: f·q = g·q, and whatever agrees after f and g is q·u for exactly one u
 abbrev pub IsCoequalizer : {Obj Mor : Type 0} → CategoryData Obj Mor → Obj → Obj → Obj → Mor → Mor → Mor → Type 0
 IsCoequalizer C a b c f g q = IsEqualizer (opposite C) c b a f g q
 
@@ -121,24 +121,24 @@ pub record Both {Obj Mor : Type 0} (C : CategoryData Obj Mor) (x a b : Obj) (p q
   pub first : Same C x a (C.compose w p) u
   pub second : Same C x b (C.compose w q) v
 
--- (p: s→a, q: s→b) is a product: for all u: x→a and v: x→b a unique w has w·p = u and w·q = v
+-- (p: s→a, q: s→b) is a product: any two morphisms x→a and x→b are w·p and w·q for exactly one w
 pub record IsProduct {Obj Mor : Type 0} (C : CategoryData Obj Mor) (s a b : Obj) (p q : Mor) : Type 0 where
   pub first : Arrow C s a p
   pub second : Arrow C s b q
   pub pair : {x : Obj} {u v : Mor} → Arrow C x a u → Arrow C x b v → Unique C x s (λ w. Both C x a b p q u v w)
 
--- (i: a→s, j: b→s) is a coproduct: for all u: a→x and v: b→x a unique w has i·w = u and j·w = v
+-- (i: a→s, j: b→s) is a coproduct: any two morphisms a→x and b→x are i·w and j·w for exactly one w
 abbrev pub IsCoproduct : {Obj Mor : Type 0} → CategoryData Obj Mor → Obj → Obj → Obj → Mor → Mor → Type 0
 IsCoproduct C a b s i j = IsProduct (opposite C) s a b i j
 
--- (p: k→a, q: k→b) is a pullback of f: a→c and g: b→c: p·f = q·g, and for all u, v with u·f = v·g a unique w has w·p = u and w·q = v
+-- (p: k→a, q: k→b) is a pullback of f: a→c and g: b→c: p·f = q·g, and any u, v that meet so too are w·p and w·q for exactly one w
 pub record IsPullback {Obj Mor : Type 0} (C : CategoryData Obj Mor) (k a b c : Obj) (f g p q : Mor) : Type 0 where
   pub first : Arrow C k a p
   pub second : Arrow C k b q
   pub square : Same C k c (C.compose p f) (C.compose q g)
   pub pair : {x : Obj} {u v : Mor} → Arrow C x a u → Arrow C x b v → Same C x c (C.compose u f) (C.compose v g) → Unique C x k (λ w. Both C x a b p q u v w)
 
--- (i: a→k, j: b→k) is a pushout of f: c→a and g: c→b: f·i = g·j, and for all u, v with f·u = g·v a unique w has i·w = u and j·w = v
+-- (i: a→k, j: b→k) is a pushout of f: c→a and g: c→b: f·i = g·j, and any u, v that meet so too are i·w and j·w for exactly one w
 abbrev pub IsPushout : {Obj Mor : Type 0} → CategoryData Obj Mor → Obj → Obj → Obj → Obj → Mor → Mor → Mor → Mor → Type 0
 IsPushout C c a b k f g i j = IsPullback (opposite C) k a b c f g i j
 
@@ -167,32 +167,32 @@ IsLift C x a b t f answer = OrNone C x a (λ u. Same C x b (C.compose u f) t) an
 abbrev pub IsColift : {Obj Mor : Type 0} → CategoryData Obj Mor → Obj → Obj → Obj → Mor → Mor → Option Mor → Type 0
 IsColift C c a x f t answer = IsLift (opposite C) x a c t f answer
 
--- (e: a→k, m: k→b) is an image of f: a→b: e·m = f, m is mono, and m factors through each mono m' with f = e'·m'
+-- (e: a→k, m: k→b) is an image of f: a→b: f = e·m, where m is the least mono that f factors through: it factors through all others
 pub record IsImage {Obj Mor : Type 0} (C : CategoryData Obj Mor) (a k b : Obj) (f e m : Mor) : Type 0 where
   pub first : Arrow C a k e
   pub mono : IsMono C k b m
   pub whole : Same C a b (C.compose e m) f
   pub least : {x : Obj} {e' m' : Mor} → Arrow C a x e' → IsMono C x b m' → Same C a b (C.compose e' m') f → Through C k x b m' m
 
--- (e: a→k, m: k→b) is a coimage of f: a→b: e·m = f, e is epi, and for each epi e' with f = e'·m' some u has e'·u = e
+-- (e: a→k, m: k→b) is a coimage of f: a→b: f = e·m, where e is an epi to which each other epi e' that f begins with goes on: e'·u = e for some u
 abbrev pub IsCoimage : {Obj Mor : Type 0} → CategoryData Obj Mor → Obj → Obj → Obj → Mor → Mor → Mor → Type 0
 IsCoimage C a k b f e m = IsImage (opposite C) b k a f m e
 
--- d: k→c is an intersection of m: a→c and n: b→c: it is p·m for some pullback (p, q) of m and n
+-- d: k→c is an intersection of m: a→c and n: b→c: the diagonal p·m of a pullback (p, q) of them
 pub record IsIntersection {Obj Mor : Type 0} (C : CategoryData Obj Mor) (k a b c : Obj) (m n d : Mor) : Type 0 where
   pub p : Mor
   pub q : Mor
   pub pullback : IsPullback C k a b c m n p q
   pub is : Same C k c d (C.compose p m)
 
--- j: u→c is a union of m: a→c and n: b→c: it is mono, m and n factor through it, and it factors through each mono through which m and n factor
+-- j: u→c is a union of m: a→c and n: b→c: the least mono that both factor through
 pub record IsUnion {Obj Mor : Type 0} (C : CategoryData Obj Mor) (u a b c : Obj) (m n j : Mor) : Type 0 where
   pub mono : IsMono C u c j
   pub first : Through C a u c j m
   pub second : Through C b u c j n
   pub least : {x : Obj} {j' : Mor} → IsMono C x c j' → Through C a x c j' m → Through C b x c j' n → Through C u x c j' j
 
--- (i: k→b, p: k→h) is the homology of f: a→b and g: b→c: i is a kernel of g, and p is a cokernel of the l with l·i = f
+-- (i: k→b, p: k→h) is the homology of f: a→b and g: b→c: i is a kernel of g, f is some l·i, and p is a cokernel of that l
 pub record IsHomology {Obj Mor : Type 0} (C : CategoryData Obj Mor) (k h a b c : Obj) (f g i p : Mor) : Type 0 where
   pub kernel : IsKernel C k b c g i
   pub l : Mor
@@ -200,7 +200,7 @@ pub record IsHomology {Obj Mor : Type 0} (C : CategoryData Obj Mor) (k h a b c :
   pub is : Same C a b (C.compose l i) f
   pub cokernel : IsCokernel C a k h l p
 
--- f: a→b and g: b→c are exact: f·g = 0, and t·s = 0 for all t with t·g = 0 and s with f·s = 0
+-- f: a→b and g: b→c are exact: f·g = 0, and a t that g sends to 0, followed by an s that is 0 after f, is 0
 pub record IsExact {Obj Mor : Type 0} (C : CategoryData Obj Mor) (a b c : Obj) (f g : Mor) : Type 0 where
   pub first : Arrow C a b f
   pub second : Arrow C b c g
@@ -244,12 +244,12 @@ pub record IsAdditive {Obj Mor : Type 0} (C : CategoryData Obj Mor) : Type 0 whe
   pub zero_object : HasZeroObject C
   pub direct_sum : (a b : Obj) → C.is_object a → C.is_object b → HasDirectSum C a b
 
--- one half of abelian: every morphism has a kernel, and every mono is a kernel of each of its cokernels
+-- one half of abelian: each morphism has a kernel, and a mono is a kernel of whatever is its cokernel
 pub record HasHalfAbelian {Obj Mor : Type 0} (C : CategoryData Obj Mor) : Type 0 where
   pub kernel : {a b : Obj} {f : Mor} → Arrow C a b f → HasKernel C a b f
   pub mono_is_kernel : {a b c : Obj} {f p : Mor} → IsMono C a b f → IsCokernel C a b c f p → IsKernel C a b c p f
 
--- abelian: additive, and half abelian on both sides: the second half says that every morphism has a cokernel, and every epi is a cokernel of each of its kernels
+-- abelian: additive, and half abelian on both sides; the other half is that each morphism has a cokernel, and an epi is a cokernel of whatever is its kernel
 pub record IsAbelian {Obj Mor : Type 0} (C : CategoryData Obj Mor) : Type 0 where
   pub additive : IsAdditive C
   pub kernels : HasHalfAbelian C

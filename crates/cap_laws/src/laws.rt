@@ -2,9 +2,10 @@
 // Each also holds in the opposite category, so its dual is the law at `opposite_is_linear`.
 ghost use Rattle.cap_laws.specs.Linear.{IsLinear};
 ghost use Rattle.cap_laws.specs.Universal.{opposite, IsAbelian};
+ghost use Rattle.cap_laws.specs.Table.{BasisProducts};
 ghost use Rattle.cap_laws.specs.Statements.{CongruenceCalculus, DifferenceIsZero, ZeroComposes, Negation, DifferencesCompose, MonoCancels, KernelIsMono, KernelsIsomorphic, FactoringIdeal, WeakPreimage, SplitsGiveHalves, FactoringBySystem};
 
-use crate::{Abelian, Cat};
+use crate::{Abelian, Cat, Table};
 
 /// Congruent morphisms may be put for one another in composites, sums and multiples.
 pub fn congruence_calculus<C: Cat>()
@@ -74,4 +75,9 @@ pub fn opposite_is_linear<C: Cat>()
 /// The opposite of an abelian category is one.
 pub fn opposite_is_abelian<C: Abelian>()
     ensures { (c : C) → IsAbelian (opposite (C.category c)) }
+{}
+
+/// In the category of a table's combinations the composite of two basis elements is the product that the table tells.
+pub fn basis_products<T: Table>()
+    ensures { (t : T) → BasisProducts (T.table t) }
 {}

@@ -9,3 +9,4 @@ pub mod Pullback
 pub mod Lifts
 pub mod RowLifts
 pub mod Members
+pub mod Systems

@@ -5,13 +5,22 @@ use Rattle.std.proofs.lemmas.Bool.{cases_eq}
 use Rattle.std.proofs.Math.Nat.{mod-lt, mod-eq_of_lt}
 use Rattle.cap_field.specs.Residue.{is_tabled}
 use Rattle.cap_field.proofs.Fermat.{tabled_range}
-use Rattle.cap_matrix.specs.Grid.{Grid, IsMatrix, entry, matrix_by}
+use Rattle.cap_matrix.specs.Grid.{Grid, IsMatrix, entry, matrix_by, transposed_of}
 use Rattle.cap_matrix.specs.Reduced.{IsNullBasis}
 use Rattle.cap_matrix.proofs.Entries.{matrix_ext, matrix_by-at, matrix_by-is}
 use Rattle.cap_reduce.proofs.ReducedForms.{null_basis_exists}
+use Rattle.cap_matrix.proofs.Transpose.{transposed-matrix}
+use Rattle.cap_laws.specs.Linear.{Arrow}
+use Rattle.cap_laws.specs.Universal.{IsKernel, IsCokernel, IsWeakKernel, IsWeakCokernel, IsLift, IsColift}
+use Rattle.cap_laws.proofs.Opposite.{opposite-linear}
+use Rattle.cap_laws.proofs.Textbook.{weak-from-kernel}
+use Rattle.cap_vec_laws.specs.Vec.{vec_data, map_option}
 use Rattle.cap_vec_laws.specs.Laws.{IsRowLift, MembersExist}
-use Rattle.cap_vec_laws.proofs.Arrows.{whole-matrix}
-use Rattle.cap_vec_laws.proofs.RowLifts.{row_lift_exists}
+use Rattle.cap_vec_laws.proofs.Arrows.{as-arrow, as-matrix, whole-matrix}
+use Rattle.cap_vec_laws.proofs.Linear.{vec_linear}
+use Rattle.cap_vec_laws.proofs.Kernels.{kernel-from-basis}
+use Rattle.cap_vec_laws.proofs.Cokernels.{cokernel-from-basis, colift_by_transposes}
+use Rattle.cap_vec_laws.proofs.RowLifts.{row_lift_exists, row_lift_is_lift}
 
 -- each entry modulo p
 pub residues_of : ℕ → Grid → Grid
@@ -66,3 +75,46 @@ members p h = record {
   basis = kernel_of-is p h;
   lift_rows = lift_of-rows p h;
 }
+
+-- the cokernel is the transpose of the kernel of the transpose
+abbrev pub cokernel_of : (p : ℕ) → is_tabled p ≡ true → Grid → Grid
+cokernel_of p t f = transposed_of (kernel_of p t (transposed_of f))
+
+-- the colift of x along f is the transpose of the lift of x' along f'
+abbrev pub colift_of : (p : ℕ) → is_tabled p ≡ true → Grid → Grid → Option Grid
+colift_of p t f x = map_option transposed_of (lift_of p t (transposed_of x) (transposed_of f))
+
+-- the laws of an abelian category for them
+module _ (p : ℕ) (t : is_tabled p ≡ true) where
+  pub kernel_is : (a b : ℕ) (f : Grid) → Arrow (vec_data p) a b f → IsKernel (vec_data p) (kernel_of p t f).row_count a b f (kernel_of p t f)
+  kernel_is a b f F = kernel-from-basis (tabled_range p t).0 (as-matrix F) (kernel_of-is p t f F.is)
+
+  pub cokernel_is : (a b : ℕ) (f : Grid) → Arrow (vec_data p) a b f → IsCokernel (vec_data p) a b (cokernel_of p t f).column_count f (cokernel_of p t f)
+  cokernel_is a b f F = cokernel-from-basis (tabled_range p t).0 (as-matrix F) (kernel_of-is p t (transposed_of f) (transposed-matrix (as-matrix F)).is)
+
+  pub weak_kernel_is : (a b : ℕ) (f : Grid) → Arrow (vec_data p) a b f → IsWeakKernel (vec_data p) (kernel_of p t f).row_count a b f (kernel_of p t f)
+  weak_kernel_is a b f F = weak-from-kernel (vec_linear p t) (kernel_is a b f F)
+
+  pub weak_cokernel_is : (a b : ℕ) (f : Grid) → Arrow (vec_data p) a b f → IsWeakCokernel (vec_data p) a b (cokernel_of p t f).column_count f (cokernel_of p t f)
+  weak_cokernel_is a b f F = weak-from-kernel (opposite-linear (vec_linear p t)) (cokernel_is a b f F)
+
+  pub lift_is : (x a b : ℕ) (s f : Grid) → Arrow (vec_data p) x b s → Arrow (vec_data p) a b f → IsLift (vec_data p) x a b s f (lift_of p t s f)
+  lift_is x a b s f S F =
+      let meet : s.column_count ≡ f.column_count = S.to ∙ sym F.to in
+      let l = row_lift_is_lift p t s f (lift_of p t s f) S.is F.is meet (lift_of-rows p t s f S.is F.is meet) in
+      subst (λ n. IsLift (vec_data p) n a b s f (lift_of p t s f)) S.from
+      (subst (λ n. IsLift (vec_data p) s.row_count n b s f (lift_of p t s f)) F.from
+      (subst (λ n. IsLift (vec_data p) s.row_count f.row_count n s f (lift_of p t s f)) F.to l))
+
+  pub colift_is : (a b x : ℕ) (f s : Grid) → Arrow (vec_data p) a b f → Arrow (vec_data p) a x s → IsColift (vec_data p) a b x f s (colift_of p t f s)
+  colift_is a b x f s F S =
+      let o = lift_of p t (transposed_of s) (transposed_of f) in
+      let l = lift_is x b a (transposed_of s) (transposed_of f) (as-arrow (transposed-matrix (as-matrix S))) (as-arrow (transposed-matrix (as-matrix F))) in
+      let here : IsLift (vec_data p) s.column_count f.column_count f.row_count (transposed_of s) (transposed_of f) o =
+      subst (λ n. IsLift (vec_data p) n f.column_count f.row_count (transposed_of s) (transposed_of f) o) (sym S.to)
+      (subst (λ n. IsLift (vec_data p) x n f.row_count (transposed_of s) (transposed_of f) o) (sym F.to)
+      (subst (λ n. IsLift (vec_data p) x b n (transposed_of s) (transposed_of f) o) (sym F.from) l)) in
+      let k = colift_by_transposes p t s f o S.is F.is (S.from ∙ sym F.from) here in
+      subst (λ n. IsColift (vec_data p) n b x f s (colift_of p t f s)) F.from
+      (subst (λ n. IsColift (vec_data p) f.row_count n x f s (colift_of p t f s)) F.to
+      (subst (λ n. IsColift (vec_data p) f.row_count f.column_count n f s (colift_of p t f s)) S.to k))

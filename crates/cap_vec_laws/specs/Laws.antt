@@ -1,11 +1,13 @@
 -- The laws of the category of matrices, as statements. Each holds for matrices of any size.
-use Rattle.std.specs.Prelude.{◌≡◌, ℕ, ◌<◌, ◌↔◌, Option, Some, None, true, [], slice_index_or}
+use Rattle.std.specs.Prelude.{List, ◌≡◌, ℕ, ◌<◌, ◌↔◌, Option, Some, None, true, [], slice_index_or}
 use Rattle.cap_field.specs.Residue.{is_tabled}
 use Rattle.cap_matrix.specs.Grid.{Grid, IsMatrix, row_times, transposed_of}
 use Rattle.cap_matrix.specs.Reduced.{IsInSpan, IsNullBasis, IsSolution}
 use Rattle.cap_matrix.specs.Kernel.{IsKernelOf}
 use Rattle.cap_laws.specs.Linear.{IsLinear}
 use Rattle.cap_laws.specs.Universal.{IsKernel, IsCokernel, IsLift, IsColift, IsAbelian, IsPullback, IsPushout}
+use Rattle.cap_laws.specs.Systems.{IsSystem, AnswersSystem}
+use Rattle.cap_laws.specs.declared.values.System.{System}
 use Rattle.cap_vec_laws.specs.Vec.{map_option, vec_data, first_columns, last_columns, stacked_difference}
 
 -- matrices modulo a prime of the table are a linear category
@@ -94,3 +96,11 @@ pub record HasMembers (p : ℕ) : Type 0 where
 
 abbrev pub MembersExist : Type 0
 MembersExist = (p : ℕ) → is_tabled p ≡ true → HasMembers p
+
+-- a function of data that answers each system of linear equations between matrices: a solution, or none exactly where there is none
+pub record HasSolver (p : ℕ) : Type 0 where
+  pub solution : System ℕ Grid → Option (List Grid)
+  pub solves : (s : System ℕ Grid) → IsSystem (vec_data p) s → AnswersSystem (vec_data p) s (solution s)
+
+abbrev pub SystemsSolved : Type 0
+SystemsSolved = (p : ℕ) → is_tabled p ≡ true → HasSolver p

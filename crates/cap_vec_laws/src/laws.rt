@@ -1,5 +1,5 @@
 // The laws, each a call that does nothing.
-ghost use Rattle.cap_vec_laws.specs.Laws.{VecLinear, VecAbelian, KernelInPlainMatrices, NullBasisIsKernel, NullBasisIsCokernel, PullbackByNullBasis, PushoutByNullBasis, LiftByRows, NoLiftByRow, RowLiftExists, RowLiftIsLift, OneRowLift, ColiftByTransposes, MembersExist};
+ghost use Rattle.cap_vec_laws.specs.Laws.{VecLinear, VecAbelian, KernelInPlainMatrices, NullBasisIsKernel, NullBasisIsCokernel, PullbackByNullBasis, PushoutByNullBasis, LiftByRows, NoLiftByRow, RowLiftExists, RowLiftIsLift, OneRowLift, ColiftByTransposes, MembersExist, SystemsSolved};
 
 /// Matrices modulo a prime of the table are a linear category.
 pub fn law_vec_linear()
@@ -69,4 +69,9 @@ pub fn law_colift_by_transposes()
 /// Kernels and lifts are functions of data.
 pub fn law_members_exist()
     ensures { MembersExist }
+{}
+
+/// Each system of linear equations between matrices is solved or refuted.
+pub fn law_systems_solved()
+    ensures { SystemsSolved }
 {}

@@ -10,7 +10,7 @@ use crate::{
     WeakCokernels, WeakKernels, laws,
 };
 use cap_field::Field;
-use cap_names::Items;
+use cap_names::{Items, NoMemory, TooLarge};
 use std::alloc::Global;
 
 /// Whether 1·f is congruent to f.
@@ -223,4 +223,24 @@ fn laws_are_taken_by_calls(rt: HostRuntime) {
     laws::factoring_by_a_system::<Scalars>();
     laws::opposite_is_linear::<Scalars>();
     laws::opposite_is_abelian::<NullCategory>();
+    laws::basis_products::<Scalars>();
+}
+
+#[test]
+fn faults(rt: HostRuntime) {
+    let large = CatFault::from(TooLarge {
+        rows: 2049,
+        cols: 3,
+    });
+    let memory = CatFault::from(NoMemory);
+    for (fault, want) in [
+        (
+            large,
+            "a matrix of 2049 rows and 3 columns is past the limits",
+        ),
+        (memory, "out of memory"),
+    ] {
+        let text = fault.to_string(rt.alloc()).expect(&rt, "memory");
+        assert!(rt; text.as_str() == want, "{want}");
+    }
 }

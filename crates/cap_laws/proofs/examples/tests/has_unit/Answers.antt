@@ -1,4 +1,4 @@
-use Rattle.std.proofs.Common.{◌≡◌, ◌∙◌, IsTrue, sym, subst, ap}
+use Rattle.std.proofs.Common.{◌≡◌, ◌↔◌, ◌∙◌, IsTrue, sym, subst, ap}
 use Rattle.cap_laws.specs.Linear.{CategoryData, IsLinear}
 use Rattle.cap_laws.proofs.Sizes.{first-arrow, answer-gives}
 use Rattle.cap_laws.proofs.examples.tests.has_unit.Goals as goal
@@ -10,5 +10,8 @@ unit-at C L a f one composite h s i e =
 
 pub returns : goal.returns
 returns g c =
-    let u = unit-at (g.C.Cat.category c.args.c.now) (g.met.C.Cat.linear c.args.c.now) c.source.result.now c.args.f.now c.in_ok-first.first c.in_ok-left.left c.requires c.source.ensures c.in_ok-first.ensures.0 c.in_ok-left.ensures.0 in
-    answer-gives _ _ (λ b. IsTrue b) c.congruent.result c.congruent.ensures (λ b h. h.1 u)
+    let K = g.C.Cat.category c.args.c.now in
+    let f = c.args.f.now in
+    let left = c.in_ok-left.left in
+    let u = unit-at K (g.met.C.Cat.linear c.args.c.now) c.source.result.now f c.in_ok-first.first left c.requires c.source.ensures c.in_ok-first.ensures.0 c.in_ok-left.ensures.0 in
+    answer-gives (g.C.Cat.congruent_meets c.args.c.now left f) (λ b. IsTrue b ↔ K.congruent left f) (λ b. IsTrue b) c.congruent.result c.congruent.ensures (λ b h. h.1 u)

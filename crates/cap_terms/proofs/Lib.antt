@@ -1,0 +1,9 @@
+pub mod Bindings
+pub mod Bodies
+pub mod Calls
+pub mod Fit
+pub mod Heads
+pub mod Loops
+pub mod Runs
+pub mod Steps
+pub mod Taken

@@ -1,0 +1,6 @@
+mod Diagonals
+mod Faults
+mod Kernels
+mod RowBuffers
+mod LiftSizes
+mod PullbackLaws

@@ -1,0 +1,4 @@
+use Rattle.cap_vec.proofs.abelian.VecCatWeakCokernels.weak_cokernel.Goals as goal
+
+pub returns : goal.returns
+returns c = c.cokernel.ensures c.args.self.now.tabled

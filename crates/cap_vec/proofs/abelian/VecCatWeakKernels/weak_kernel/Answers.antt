@@ -1,0 +1,4 @@
+use Rattle.cap_vec.proofs.abelian.VecCatWeakKernels.weak_kernel.Goals as goal
+
+pub returns : goal.returns
+returns c = c.kernel.ensures c.args.self.now.tabled

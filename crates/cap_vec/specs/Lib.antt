@@ -1,0 +1,3 @@
+pub mod Sizes
+pub mod Solved
+pub mod Laws

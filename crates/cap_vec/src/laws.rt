@@ -1,0 +1,12 @@
+// Laws of the answers, each a call that does nothing.
+ghost use Rattle.cap_vec.specs.Laws.{KernelIsNullBasis, LiftIsRowByRow};
+
+/// The kernel of a matrix is its null-row basis; cokernels, pullbacks and pushouts are made of kernels.
+pub fn law_kernel_is_null_basis()
+    ensures { KernelIsNullBasis }
+{}
+
+/// The lift solves row by row; the colift is the transpose of a lift of transposes.
+pub fn law_lift_is_row_by_row()
+    ensures { LiftIsRowByRow }
+{}

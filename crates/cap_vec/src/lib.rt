@@ -1,0 +1,17 @@
+//! The category of matrices over a prime field: abelian, with pullbacks and pushouts.
+#![tactic(auto)]
+
+mod abelian;
+mod category;
+mod laws;
+mod lifts;
+mod morphism;
+mod pullbacks;
+mod sums;
+
+pub use category::VecCat;
+pub use laws::{law_kernel_is_null_basis, law_lift_is_row_by_row};
+pub use morphism::VecMor;
+
+#[cfg(test)]
+mod tests;
