@@ -8,6 +8,8 @@ pub mod laws;
 mod rule_table;
 #[cfg(test)]
 mod soundness_tests;
+#[cfg(test)]
+mod tests;
 
 pub use cost_table::costs;
 pub use rule_table::rules;

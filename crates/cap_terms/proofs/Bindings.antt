@@ -1,5 +1,5 @@
 -- What binding letters to objects one after another comes to: the bindings that are found are those of every choice of objects that fits.
-use Rattle.std.proofs.Common.{◌≡◌, ◌≢◌, ℕ, zero, suc, ◌+◌, ◌<◌, ◌≤◌, Bool, true, false, List, [], ◌∷◌, ◌++◌, length, set, length-set, refl, sym, ap, ◌∙◌, subst, ◌⊎◌, inl, inr, eqb, arith}
+use Rattle.std.proofs.Common.{◌≡◌, ℕ, zero, suc, ◌<◌, Bool, true, false, List, [], ◌∷◌, ◌++◌, length, set, length-set, refl, sym, ap, ◌∙◌, subst, inl, inr, eqb, arith}
 use Rattle.std.specs.Prelude.{Option, Some, None, option_and_then, slice_get, slice_set, ◌&&◌, if◌then◌else◌}
 use Rattle.std.proofs.lemmas.Bool.{eqb-true, eq-eqb, eqb-false}
 use Rattle.cap_ops.specs.declared.ends.Ends.{Ends}
@@ -10,7 +10,7 @@ use Rattle.cap_ops.proofs.Letters.{AllBelow}
 use Rattle.cap_ops.proofs.Places.{Among, Among-left, Among-right, Among-either, none≢some, some_inner}
 use Rattle.cap_terms.specs.declared.symbol.Symbol.{Symbol}
 use Rattle.cap_terms.specs.declared.symbol.Symbol.TheVariants.{Given, Made}
-use Rattle.cap_terms.specs.Checker.{Bindings, no_bindings, is_same, bound, bound_at, bound_ends, bound_shape}
+use Rattle.cap_terms.specs.Checker.{Bindings, is_same, bound, bound_at, bound_ends, bound_shape}
 
 -- the choice of objects keeps to the bindings
 pub record Extends (σ : ℕ → Symbol) (b : Bindings) : Type 0 where

@@ -1,25 +1,24 @@
 -- The checker's fault is the first fault of the body, and there is none exactly where the body is typed.
-use Rattle.std.proofs.Common.{◌≡◌, ℕ, zero, suc, ◌+◌, ◌<◌, ◌≤◌, Bool, true, false, List, [], ◌∷◌, ◌++◌, length, take, refl, sym, ap, ◌∙◌, subst, arith, ◌⊎◌, inl, inr, eqb, length-append, append_assoc, append-nil}
-use Rattle.std.specs.Prelude.{Option, Some, None, is_some, slice_get, map, unwrap_or, if◌then◌else◌, ◌&&◌, option_map}
+use Rattle.std.proofs.Common.{◌≡◌, ℕ, ◌+◌, ◌<◌, ◌≤◌, Bool, true, false, List, [], ◌∷◌, ◌++◌, length, take, refl, sym, ap, ◌∙◌, subst, arith, ◌⊎◌, inl, inr, eqb, length-append, append_assoc, append-nil}
+use Rattle.std.specs.Prelude.{Option, Some, None, is_some, slice_get, unwrap_or, if◌then◌else◌, option_map}
 use Rattle.std.proofs.lemmas.Bool.{eqb-true, eq-eqb}
 use Rattle.std.proofs.lemmas.List.{length-map}
 use Rattle.std.proofs.Math.Seq.{take-append_seam, take-append-add}
 use Rattle.std.proofs.lemmas.Option.{slice_get-map, slice_get_within}
 use Rattle.cap_ops.specs.declared.ends.Shape.{Shape}
 use Rattle.cap_ops.specs.declared.ends.Shape.TheVariants.{Scalar}
-use Rattle.cap_ops.specs.Ends.{profile_of, renamed, IsOperation}
+use Rattle.cap_ops.specs.Ends.{profile_of, renamed}
 use Rattle.cap_ops.proofs.Letters.{both-true}
-use Rattle.cap_terms.specs.declared.body.Var.{Var}
 use Rattle.cap_terms.specs.declared.body.Step.{Step}
 use Rattle.cap_terms.specs.declared.body.Body.{Body}
 use Rattle.cap_terms.specs.declared.symbol.Symbol.{Symbol}
 use Rattle.cap_terms.specs.declared.symbol.Symbol.TheVariants.{Given}
-use Rattle.cap_terms.specs.Typing.{Assignment, StepTyped, StepsTypedBy, StepsTyped, HasParameters, AnswerTyped, Typed, FirstFault, parameters, step, answer}
+use Rattle.cap_terms.specs.Typing.{Assignment, StepTyped, StepsTypedBy, HasParameters, Typed, FirstFault, parameters, step, answer}
 use Rattle.cap_terms.specs.Checker.{Bindings, step_shape, answer_bindings, fault_unless, steps_fault, has_parameters, given_shapes, body_fault, is_operation}
 use Rattle.cap_ops.proofs.Places.{none≢some, some_inner, slice_get-left, slice_get-end, slice_get-push, slice_get-there, slice_get-take}
 use Rattle.cap_terms.proofs.Calls.{Knows, is_operation-true, operation-is}
 use Rattle.cap_terms.proofs.Steps.{step-sound, step-complete}
-use Rattle.cap_terms.proofs.Heads.{Gives, answer-sound, answer-complete}
+use Rattle.cap_terms.proofs.Heads.{answer-sound, answer-complete}
 
 -- the shapes that the checker finds for the parameters and the first steps
 pub data Chain (head : ℕ) : List Step → List (Shape Symbol) → Type 0 where

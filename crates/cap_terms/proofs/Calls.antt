@@ -1,16 +1,16 @@
 -- A call is typed exactly where binding its letters succeeds, and its answer has the objects that were found.
-use Rattle.std.proofs.Common.{◌≡◌, ◌≢◌, ℕ, zero, suc, ◌+◌, ◌<◌, ◌≤◌, Bool, true, false, List, [], ◌∷◌, ◌++◌, length, refl, sym, ap, ◌∙◌, subst, ◌⊎◌, inl, inr, leb, arith}
-use Rattle.std.specs.Prelude.{Option, Some, None, option_and_then, option_map, slice_get, map, All, Contains, ◌&&◌, if◌then◌else◌, nat_le}
+use Rattle.std.proofs.Common.{◌≡◌, ℕ, zero, suc, ◌<◌, Bool, true, false, List, [], ◌∷◌, length, refl, sym, ap, ◌∙◌, subst, inl, inr, arith}
+use Rattle.std.specs.Prelude.{Option, Some, None, option_and_then, option_map, slice_get, map, Contains, if◌then◌else◌, nat_le}
 use Rattle.std.proofs.lemmas.List.Elements.{All-nil, All-cons, All-head, All-tail}
 use Rattle.std.proofs.lemmas.Option.{slice_get_within}
 use Rattle.std.proofs.lemmas.Bool.{leb-true, le-leb}
 use Rattle.std.proofs.Math.Path.{fun_ext}
 use Rattle.cap_ops.specs.declared.ends.Shape.{Shape}
-use Rattle.cap_ops.specs.Ends.{Profile, profile_of, places, ends_in, renamed, IsNew, IsOperation}
-use Rattle.cap_ops.proofs.Letters.{AllBelow, few_letters, both-true}
+use Rattle.cap_ops.specs.Ends.{profile_of, places, renamed, IsOperation}
+use Rattle.cap_ops.proofs.Letters.{few_letters, both-true}
 use Rattle.cap_terms.specs.declared.body.Var.{Var}
 use Rattle.cap_terms.specs.declared.symbol.Symbol.{Symbol}
-use Rattle.cap_terms.specs.declared.symbol.Symbol.TheVariants.{Given, Made}
+use Rattle.cap_terms.specs.declared.symbol.Symbol.TheVariants.{Made}
 use Rattle.cap_terms.specs.Typing.{Assignment, AllBefore, shapes_at, CallTyped}
 use Rattle.cap_terms.specs.Checker.{Bindings, no_bindings, bound_shape, bound_args, or_fresh, object_in, call_shape, is_operation}
 use Rattle.cap_terms.proofs.Bindings.{Extends, Unbound, Bound, Found, Binds, join, reworded, nothing, refuses, shape_binds}

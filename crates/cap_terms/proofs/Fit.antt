@@ -1,21 +1,20 @@
 -- Typed bodies never meet a mismatch of ends.
-use Rattle.std.proofs.Common.{◌≡◌, ℕ, zero, suc, ◌+◌, ◌<◌, ◌≤◌, List, [], ◌∷◌, ◌++◌, length, refl, sym, ap, ◌∙◌, subst, arith, ◌⊎◌, inl, inr, add-zero, zero-add}
-use Rattle.std.specs.Prelude.{Option, Some, None, slice_get, map, unwrap_or}
+use Rattle.std.proofs.Common.{◌≡◌, ℕ, zero, suc, ◌+◌, ◌<◌, List, [], ◌∷◌, length, refl, sym, ap, ◌∙◌, subst, arith, inl, inr, add-zero, zero-add}
+use Rattle.std.specs.Prelude.{Option, Some, None, slice_get, unwrap_or}
 use Rattle.cap_ops.specs.declared.ends.Shape.{Shape}
-use Rattle.cap_ops.specs.Ends.{profile_of, places, renamed}
+use Rattle.cap_ops.specs.Ends.{profile_of, places}
 use Rattle.cap_ops.specs.Values.{Value, none, Setting, HasShape, HaveShapes, Fits, FitsWithAnswer}
-use Rattle.cap_ops.proofs.Places.{Among, none≢some, some_inner, slice_get-there}
+use Rattle.cap_ops.proofs.Places.{none≢some, some_inner, slice_get-there}
 use Rattle.cap_ops.proofs.Shapes.{HasShape-renamed, renamed-HasShape, HaveShapes-wider}
-use Rattle.cap_terms.specs.declared.body.Var.{Var}
 use Rattle.cap_terms.specs.declared.body.Step.{Step}
 use Rattle.cap_terms.specs.declared.body.Body.{Body}
 use Rattle.cap_terms.specs.declared.symbol.Symbol.{Symbol}
 use Rattle.cap_terms.specs.declared.symbol.Symbol.TheVariants.{Given, Made}
-use Rattle.cap_terms.specs.Run.{done, at, BodyGives}
-use Rattle.cap_terms.specs.Typing.{Assignment, StepTyped, StepsTypedBy, Typed}
-use Rattle.cap_terms.specs.Ends.{EndsGive, NeverMismatches}
+use Rattle.cap_terms.specs.Run.{at}
+use Rattle.cap_terms.specs.Typing.{Assignment, StepTyped, Typed}
+use Rattle.cap_terms.specs.Ends.{NeverMismatches}
 use Rattle.cap_terms.proofs.Calls.{Contains-among}
-use Rattle.cap_terms.proofs.Runs.{IsAt, Held, TypedFrom, Ended, comes-fit, ends-at}
+use Rattle.cap_terms.proofs.Runs.{Held, TypedFrom, Ended, comes-fit, ends-at}
 
 same-lengths : {X Obj Mor : Type 0} (S : Setting Obj Mor) (f : X → Option Obj) (ss : List (Shape X)) (vs : List (Value Obj Mor)) → HaveShapes S f ss vs → length vs ≡ length ss
 same-lengths S f [] [] h = refl

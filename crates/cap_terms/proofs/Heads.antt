@@ -1,17 +1,17 @@
 -- The parameters of a body are the arguments of its head, and its answer is compared with the head's.
-use Rattle.std.proofs.Common.{◌≡◌, ℕ, zero, suc, ◌+◌, ◌<◌, ◌≤◌, List, [], ◌∷◌, ◌++◌, length, take, refl, sym, ap, ◌∙◌, arith, ◌⊎◌, inl, inr}
-use Rattle.std.specs.Prelude.{Option, Some, None, option_and_then, slice_get, map, All}
+use Rattle.std.proofs.Common.{◌≡◌, ℕ, ◌<◌, ◌≤◌, List, [], ◌∷◌, ◌++◌, length, take, refl, sym, ◌∙◌, arith}
+use Rattle.std.specs.Prelude.{Some, option_and_then, slice_get, map}
 use Rattle.std.proofs.lemmas.List.Elements.{All-nil, All-cons}
 use Rattle.cap_ops.specs.declared.ends.Shape.{Shape}
 use Rattle.cap_ops.specs.Ends.{profile_of, places, ends_in, renamed}
 use Rattle.cap_ops.proofs.Letters.{AllBelow, few_letters}
 use Rattle.cap_terms.specs.declared.body.Var.{Var}
 use Rattle.cap_terms.specs.declared.symbol.Symbol.{Symbol}
-use Rattle.cap_terms.specs.declared.symbol.Symbol.TheVariants.{Given, Made}
+use Rattle.cap_terms.specs.declared.symbol.Symbol.TheVariants.{Given}
 use Rattle.cap_terms.specs.Typing.{Assignment, AllBefore, shapes_at, AnswerTyped}
 use Rattle.cap_terms.specs.Checker.{Bindings, no_bindings, bound_shape, bound_args, object_in, first_variables, answer_bindings}
-use Rattle.cap_terms.proofs.Bindings.{Extends, Found, Bound, Binds, join, shape_binds}
-use Rattle.cap_ops.proofs.Places.{none≢some, some_inner, Among, same-at_letters, renamed-alike}
+use Rattle.cap_terms.proofs.Bindings.{Found, Binds, join, shape_binds}
+use Rattle.cap_ops.proofs.Places.{same-at_letters, renamed-alike}
 use Rattle.cap_terms.proofs.Calls.{Knows, Fit, args_bind, nothing-extends, object_in-extends, Contains-among, Among-contains}
 use Rattle.cap_terms.proofs.Steps.{look-sound, look-complete}
 

@@ -1,26 +1,24 @@
 -- Runs of typed bodies: the values have the sorts and ends of their variables, so each call fits.
-use Rattle.std.proofs.Common.{◌≡◌, ◌≢◌, ℕ, zero, suc, ◌+◌, ◌<◌, ◌≤◌, Bool, true, false, List, [], ◌∷◌, ◌++◌, length, refl, sym, ap, ◌∙◌, subst, arith, ◌⊎◌, inl, inr, length-append, eqb, add-zero, add-suc}
-use Rattle.std.specs.Prelude.{MatchBool, Option, Some, None, slice_get, map, All, unwrap_or, ◌||◌, ◌&&◌, ◌==◌, if◌then◌else◌}
-use Rattle.std.specs.List.{list_any}
+use Rattle.std.proofs.Common.{◌≡◌, ◌≢◌, ℕ, zero, suc, ◌+◌, ◌<◌, ◌≤◌, Bool, true, false, List, [], ◌∷◌, ◌++◌, length, refl, sym, ap, ◌∙◌, subst, arith, ◌⊎◌, inl, inr, length-append, eqb}
+use Rattle.std.specs.Prelude.{MatchBool, Option, Some, None, slice_get, map, unwrap_or, ◌||◌, ◌==◌, if◌then◌else◌}
 use Rattle.std.proofs.lemmas.Bool.{eqb-true, eqb-false, eq-eqb}
 use Rattle.std.proofs.lemmas.List.Elements.{All-head, All-tail}
 use Rattle.cap_ops.specs.declared.ends.Ends.{Ends}
 use Rattle.cap_ops.specs.declared.ends.Shape.{Shape}
 use Rattle.cap_ops.specs.declared.ends.Shape.TheVariants.{Object, Morphism, Two, Four, Truth, Scalar}
-use Rattle.cap_ops.specs.Ends.{profile_of, places, ends_in, renamed, renamed_ends, IsNew, IsOperation}
-use Rattle.cap_ops.specs.Values.{Value, object, morphism, two, four, truth, scalar, none, Setting, HasEnds, HasShape, HaveShapes, Fits, FitsWithAnswer}
+use Rattle.cap_ops.specs.Ends.{profile_of, places}
+use Rattle.cap_ops.specs.Values.{Value, morphism, two, four, truth, scalar, none, Setting, HasEnds, HasShape, HaveShapes, Fits, FitsWithAnswer}
 use Rattle.cap_terms.specs.declared.body.Var.{Var}
 use Rattle.cap_terms.specs.declared.body.Step.{Step}
 use Rattle.cap_terms.specs.declared.body.Step.TheVariants.{Call, Src, Tgt, Part, MinusOne, Exists, Both, When, Tuple}
-use Rattle.cap_terms.specs.declared.body.Body.{Body}
 use Rattle.cap_terms.specs.declared.symbol.Symbol.{Symbol}
 use Rattle.cap_terms.specs.declared.symbol.Symbol.TheVariants.{Given, Made}
-use Rattle.cap_terms.specs.Run.{Outcome, done, large, at, all_at, is_none, has_none, source_of, target_of, parts, nth_from_one, part_of, exists_of, both_of, when_of, tuple_of, StepGives, After, StepsGive, ComesTo, IsCallOf}
-use Rattle.cap_terms.specs.Typing.{Assignment, AllBefore, shapes_at, CallTyped, parts_of, tuple_shape, HasMorphisms, CanExist, StepTyped, StepsTypedBy, AnswerTyped, Typed}
-use Rattle.cap_terms.specs.Ends.{EndsGive, NeverMismatches}
+use Rattle.cap_terms.specs.Run.{done, large, at, all_at, is_none, has_none, source_of, target_of, nth_from_one, part_of, exists_of, both_of, when_of, tuple_of, StepGives, StepsGive, ComesTo}
+use Rattle.cap_terms.specs.Typing.{Assignment, AllBefore, shapes_at, CallTyped, parts_of, tuple_shape, StepTyped}
+use Rattle.cap_terms.specs.Ends.{EndsGive}
 use Rattle.cap_ops.proofs.Places.{Among, none≢some, some_inner, slice_get-left, slice_get-end}
-use Rattle.cap_ops.proofs.Shapes.{HasShape-renamed, renamed-HasShape, Wider, HasShape-wider, HaveShapes-wider, HaveShapes-renamed, same-objects}
-use Rattle.cap_terms.proofs.Calls.{Contains-among, Among-contains}
+use Rattle.cap_ops.proofs.Shapes.{renamed-HasShape, HasShape-wider, HaveShapes-renamed, same-objects}
+use Rattle.cap_terms.proofs.Calls.{Among-contains}
 
 done_inner : {Obj Mor : Type 0} {v w : Value Obj Mor} → done v ≡ done w → v ≡ w
 done_inner e = cc

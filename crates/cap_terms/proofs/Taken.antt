@@ -1,9 +1,8 @@
 -- Lists of which no more is kept than variables can name.
-use Rattle.std.proofs.Common.{◌≡◌, ℕ, zero, suc, ◌+◌, ◌<◌, ◌≤◌, min, List, [], ◌∷◌, ◌++◌, length, take, set, refl, sym, ap, ◌∙◌, arith, length-append, length-take}
-use Rattle.std.specs.Prelude.{Option, Some, None, slice_get, slice_set}
+use Rattle.std.proofs.Common.{◌≡◌, ℕ, zero, suc, ◌+◌, ◌<◌, ◌≤◌, List, [], ◌∷◌, ◌++◌, length, take, set, refl, sym, ap, ◌∙◌, arith, length-append, length-take}
+use Rattle.std.specs.Prelude.{None, slice_get}
 use Rattle.std.proofs.lemmas.List.{take_more_set, take-append-le}
 use Rattle.std.proofs.lemmas.Option.{slice_get_past}
-use Rattle.cap_ops.proofs.Places.{slice_get-left}
 use Rattle.cap_terms.specs.Nameable.{nameable}
 
 pub nameable_is : nameable ≡ 256

@@ -1,9 +1,9 @@
 -- How `check_term` decides: the shape that each step must have, given those of the variables before it. `proofs/` shows that these are the typed steps.
-use Rattle.std.specs.Prelude.{ℕ, zero, suc, ◌+◌, Bool, true, false, ◌&&◌, ◌==◌, nat_lt, nat_le, if◌then◌else◌, List, [], ◌∷◌, ◌++◌, Option, Some, None, option_and_then, option_map, is_some, slice_get, slice_set, map, length, take, unwrap_or}
+use Rattle.std.specs.Prelude.{ℕ, ◌+◌, Bool, false, ◌&&◌, ◌==◌, nat_le, if◌then◌else◌, List, [], ◌∷◌, ◌++◌, Option, Some, None, option_and_then, option_map, is_some, slice_get, slice_set, map, length, take}
 use Rattle.cap_ops.specs.declared.ends.Ends.{Ends}
 use Rattle.cap_ops.specs.declared.ends.Shape.{Shape}
 use Rattle.cap_ops.specs.declared.ends.Shape.TheVariants.{Object, Morphism, Two, Four, Truth, Scalar}
-use Rattle.cap_ops.specs.Ends.{profile_of, places, renamed}
+use Rattle.cap_ops.specs.Ends.{profile_of, renamed}
 use Rattle.cap_terms.specs.declared.body.Var.{Var}
 use Rattle.cap_terms.specs.declared.body.Step.{Step}
 use Rattle.cap_terms.specs.declared.body.Step.TheVariants.{Call, Src, Tgt, Part, MinusOne, Exists, Both, When, Tuple}
@@ -11,7 +11,7 @@ use Rattle.cap_terms.specs.declared.body.Body.{Body}
 use Rattle.cap_terms.specs.declared.symbol.Symbol.{Symbol}
 use Rattle.cap_terms.specs.declared.symbol.Symbol.TheVariants.{Given, Made}
 use Rattle.cap_terms.specs.Run.{nth_from_one}
-use Rattle.cap_terms.specs.Typing.{parts_of, tuple_shape}
+use Rattle.cap_terms.specs.Typing.{parts_of}
 
 -- the objects that the letters 0 to 4 stand for, as far as they are known
 abbrev pub Bindings : Type 0

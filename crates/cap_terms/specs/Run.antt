@@ -1,5 +1,5 @@
 -- What running a body means. What calls give is a parameter, so that the same words serve the soundness of rules (calls give what the operations mean), plain evaluation (calls give what smaller runs give) and the ends of values (calls give what has their signature's ends).
-use Rattle.std.specs.Prelude.{◌≡◌, ℕ, zero, suc, Bool, true, false, ◌&&◌, List, [], ◌∷◌, ◌++◌, Option, Some, None, slice_get, map, unwrap_or, ◌⊎◌, MatchBool}
+use Rattle.std.specs.Prelude.{◌≡◌, ℕ, zero, suc, Bool, true, false, ◌&&◌, List, [], ◌∷◌, ◌++◌, Option, None, slice_get, map, unwrap_or, ◌⊎◌, MatchBool}
 use Rattle.std.specs.List.{list_any}
 use Rattle.cap_ops.specs.Values.{Value, object, morphism, two, four, truth, scalar, none, Setting}
 use Rattle.cap_terms.specs.declared.body.Var.{Var}

@@ -1,5 +1,5 @@
 -- Which bodies are typed. The objects of a body go by names: the letters of the head's arguments, and for each step that is a call the new letters of its operation, all different. A body is typed where some assignment of sorts and ends to its variables makes each step right, and the answer has the head's sort and ends.
-use Rattle.std.specs.Prelude.{◌≡◌, ℕ, zero, suc, ◌+◌, ◌<◌, List, [], ◌∷◌, Option, Some, None, slice_get, map, length, take, All, Contains}
+use Rattle.std.specs.Prelude.{◌≡◌, ℕ, ◌+◌, ◌<◌, List, [], ◌∷◌, Option, Some, None, slice_get, map, length, take, All, Contains}
 use Rattle.cap_ops.specs.declared.ends.Ends.{Ends}
 use Rattle.cap_ops.specs.declared.ends.Shape.{Shape}
 use Rattle.cap_ops.specs.declared.ends.Shape.TheVariants.{Object, Morphism, Two, Four, Truth, Scalar}

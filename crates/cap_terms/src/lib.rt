@@ -16,3 +16,6 @@ pub use check::{BadStep, check_term};
 pub use laws::typed_bodies_fit;
 pub use occurrences::multiplicity;
 pub use rule_set::RuleSet;
+
+#[cfg(test)]
+mod tests;

@@ -1,4 +1,4 @@
-use Rattle.std.proofs.Common.{◌≡◌, sym, ◌∙◌, arith}
+use Rattle.std.proofs.Common.{sym, ◌∙◌, arith}
 use Rattle.cap_terms.proofs.Loops.{args-unknown, args-refused, place-there, place-missing}
 use Rattle.cap_terms.proofs.binding.bind_args.Goals as goal
 

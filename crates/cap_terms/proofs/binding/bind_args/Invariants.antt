@@ -1,4 +1,4 @@
-use Rattle.std.proofs.Common.{◌≡◌, ◌≤◌, ℕ, List, length, take, drop}
+use Rattle.std.proofs.Common.{◌≡◌, ℕ, List, length, take, drop}
 use Rattle.cap_ops.specs.declared.ends.Shape.{Shape}
 use Rattle.cap_ops.specs.Ends.{padded}
 use Rattle.cap_terms.specs.declared.symbol.Symbol.{Symbol}

@@ -1,4 +1,4 @@
-use Rattle.std.proofs.Common.{[], ◌∷◌, ◌≡◌, ◌≤◌, sym, ◌∙◌, arith, length-take}
+use Rattle.std.proofs.Common.{arith, length-take}
 use Rattle.cap_ops.specs.Ends.{profile_of}
 use Rattle.cap_ops.proofs.Letters.{few_letters}
 use Rattle.cap_terms.specs.Checker.{first_variables}

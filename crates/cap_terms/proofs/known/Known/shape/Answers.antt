@@ -1,4 +1,4 @@
-use Rattle.std.proofs.Common.{◌≡◌, length, arith}
+use Rattle.std.proofs.Common.{arith}
 use Rattle.cap_terms.proofs.Taken.{nameable_is, past_known}
 use Rattle.cap_terms.proofs.known.Known.shape.Goals as goal
 

@@ -1,5 +1,0 @@
-use Rattle.cap_cert.proofs.Pushed.{word_at, registration_pushed}
-use Rattle.cap_cert.proofs.writing.push_registration.Goals as goal
-
-pub returns : goal.returns
-returns c = registration_pushed _ _ _ _ _ _ _ _ c.in_ok-push_str.ensures.bytes c.in_ok-push_str-2.ensures.bytes c.in_ok-push_number.ensures c.in_ok-push_str-3.ensures.bytes (word_at _ _ c.op_name.ensures)
