@@ -1,0 +1,9 @@
+pub mod Law
+pub mod Items
+pub mod Sequences
+pub mod Choices
+pub mod Repetitions
+pub mod Loops
+pub mod Whole
+pub mod ExampleLaws
+pub mod Lined

@@ -1,0 +1,6 @@
+pub mod Languages
+pub mod Steps
+pub mod Faults
+pub mod Reading
+pub mod Example
+pub mod Lines

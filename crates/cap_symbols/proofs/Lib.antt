@@ -1,0 +1,5 @@
+pub mod Digits
+pub mod Fixeds
+pub mod OneSymbol
+pub mod OneText
+pub mod Walk
