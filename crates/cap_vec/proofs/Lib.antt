@@ -4,3 +4,7 @@ mod Kernels
 mod RowBuffers
 mod LiftSizes
 mod PullbackLaws
+mod SystemBlocks
+mod SystemMatrix
+mod SystemParts
+mod SystemAnswers

@@ -1,3 +1,4 @@
 pub mod Sizes
+pub mod SystemSizes
 pub mod Solved
 pub mod Laws

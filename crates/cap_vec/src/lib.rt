@@ -8,6 +8,7 @@ mod lifts;
 mod morphism;
 mod pullbacks;
 mod sums;
+mod systems;
 
 pub use category::VecCat;
 pub use laws::{law_kernel_is_null_basis, law_lift_is_row_by_row};

@@ -64,7 +64,12 @@ fn solve_rows(alloc: Global, x: &VecMor, f: &VecMor) -> Result<Option<Items<u16>
 }
 
 /// The matrix of these cells, where its size keeps the limits.
-fn from_rows(field: Field, rows: u32, cols: u32, cells: Items<u16>) -> Result<VecMor, CatFault>
+pub(crate) fn from_rows(
+    field: Field,
+    rows: u32,
+    cols: u32,
+    cells: Items<u16>,
+) -> Result<VecMor, CatFault>
     requires long { length cells ≡ rows * cols }
     requires residues { (k : ℕ) → k < rows * cols → slice_index cells k < field }
     ensures { Answers (IsSizeOf (matrix_of field rows cols cells)) (λ x. x ≡ matrix_of field rows cols cells) result }

@@ -1,11 +1,16 @@
 // Worked examples.
-ghost use Rattle.std.specs.Prelude.{◌≡◌};
+ghost use Rattle.std.specs.Prelude.{◌≡◌, IfOk};
 ghost use Rattle.cap_matrix.specs.Grid.{IsMatrix};
+ghost use Rattle.cap_laws.specs.Systems.{IsSystem, term_system};
 
 use crate::{VecCat, VecMor};
 use cap_field::Field;
-use cap_laws::{Abelian, Additive, Cat, CatFault, Preadditive, WeakCokernels, WeakKernels};
+use cap_laws::{
+    Abelian, Additive, Cat, CatFault, Equation, Lifts, Preadditive, System, Term, WeakCokernels,
+    WeakKernels,
+};
 use cap_matrix::Matrix;
+use cap_names::Items;
 use std::alloc::Global;
 use std::process::Abort;
 use std::test::Fail;
@@ -236,5 +241,66 @@ fn sizes_past_the_limits_are_named(rt: HostRuntime) -> Result<(), Fail> {
         category.direct_sum(alloc, &3000000000, &2000000000).err(),
         Some(wide)
     );
+    Ok(())
+}
+
+/// The system l·X·r = v in one unknown.
+fn one_equation(
+    alloc: Global,
+    left: VecMor,
+    right: VecMor,
+    value: VecMor,
+) -> Result<System<u32, VecMor>, CatFault>
+    ensures { IfOk result (λ s. s ≡ term_system left.column_count right.row_count left right value) }
+{
+    let mut unknowns = Vec::new(alloc);
+    unknowns.push((left.matrix().cols(), right.matrix().rows()))?;
+    let mut terms = Vec::new(alloc);
+    terms.push(Term {
+        left,
+        unknown: 0,
+        right,
+    })?;
+    let mut equations = Vec::new(alloc);
+    equations.push(Equation {
+        terms: Items::new(terms),
+        value,
+    })?;
+    Ok(System {
+        unknowns: Items::new(unknowns),
+        equations: Items::new(equations),
+    })
+}
+
+/// The first part of the solution of a system, in any category with lifts.
+fn first_solved<C: Lifts>(
+    category: &C,
+    alloc: Global,
+    s: &System<C::Obj, C::Mor>,
+) -> Result<Option<C::Mor>, CatFault>
+    requires { IsSystem (C.category category.now) s.now }
+{
+    match category.solve_system(alloc, s)? {
+        Some(solution) => Ok(solution.into_vec().pop()),
+        None => Ok(None),
+    }
+}
+
+#[test]
+fn systems_are_solved_or_refuted(rt: HostRuntime) -> Result<(), Fail> {
+    let alloc = rt.alloc();
+    let field = Field::from_prime(5).expect(&rt, "a prime of the table");
+    let category = VecCat::new(field);
+    let cases: [(&[u16], Option<&[u16]>); 2] = [
+        (&[3, 1, 1, 2], Some(&[3, 0, 1, 0, 0, 0])),
+        (&[3, 0, 1, 0], None),
+    ];
+    for (value, answer) in &cases {
+        let left = morphism(&rt, alloc, field, 2, 3, &[1, 0, 0, 0, 1, 0]);
+        let right = morphism(&rt, alloc, field, 2, 2, &[1, 2, 2, 4]);
+        let value = morphism(&rt, alloc, field, 2, 2, value);
+        let s = one_equation(alloc, left, right, value)?;
+        assert!(rt; is_answer(&first_solved(&category, alloc, &s)?, *answer));
+    }
     Ok(())
 }
