@@ -2,6 +2,8 @@ pub mod Letters
 pub mod Padded
 pub mod Places
 pub mod Shapes
+pub mod Scans
+pub mod Scanned
 mod Table
 pub mod DerivationsBounds
 pub mod DerivationsTrees

@@ -4,3 +4,8 @@ pub mod Operations
 pub mod Values
 pub mod Derivations
 pub mod Meaning
+pub mod Arrows
+pub mod Told
+pub mod Mismatches
+pub mod Scan
+pub mod Primitives

@@ -1,19 +1,30 @@
-//! The 44 operations: kinds of category, sorts and ends, registrations, costs of rules, plans.
+//! The 44 operations: kinds of category, sorts and ends, registrations, costs of rules, plans; values, keys and the trait of what offers primitives.
 #![tactic(auto)]
 
+mod arrows;
 mod derivations;
 mod ends;
+mod fitting;
+mod keys;
 mod offers;
 pub mod operations;
 mod plans;
+mod primitives;
 mod signatures;
 mod sorts;
 
+pub use arrows::{Arrow, End, OutArrow};
 pub use derivations::{
     bounds_of_plan, lines_of_plan, lines_suffice, lower_bounds, one_least, one_plan,
 };
 pub use ends::{Ends, OperationEnds, Shape, arity, operation_ends};
+pub use fitting::{Mismatch, ends_fit};
+pub use keys::{Arg, Key, Out, PrimOut, Value};
 pub use offers::{kind_word, offered};
 pub use plans::{Choice, Kind, MOST_WEIGHT, NO_PLAN, OPERATIONS, Plan, Regs, RuleCost};
+pub use primitives::{Datum, Objects, Offer};
 pub use signatures::signature;
 pub use sorts::{Signature, Sort};
+
+#[cfg(test)]
+mod tests;

@@ -4,3 +4,4 @@ mod Scanned
 mod Values
 mod Judged
 mod Runs
+mod CheckRuns

@@ -4,3 +4,4 @@ pub mod Numbers
 pub mod Run
 pub mod Words
 pub mod Status
+pub mod CheckRun

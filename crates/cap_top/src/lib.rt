@@ -1,12 +1,14 @@
 //! The top call: what the program does with its words, its input and its output.
 #![tactic(auto)]
 
+mod check;
 mod form;
 mod outcome;
 mod plain;
 mod program;
 mod text;
 
+pub use check::cap_check;
 pub use outcome::{Outcome, Status};
 pub use plain::cap_plain;
 pub use program::cap;

@@ -12,7 +12,7 @@ use cap_reduce::null_rows;
 use std::alloc::{AllocError, Global};
 
 /// How many bytes a script may have.
-const BYTE_LIMIT: usize = 1_048_576;
+pub(crate) const BYTE_LIMIT: usize = 1_048_576;
 
 /// The status and the text for the bytes of a whole input: the answer to a script, or the refusal.
 fn answer_to(alloc: Global, bytes: &[u8]) -> Result<(Status, String), AllocError>

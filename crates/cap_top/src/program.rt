@@ -1,8 +1,9 @@
 // The program: its words, and what they ask for.
-ghost use Rattle.std.specs.Prelude.{◌≡◌, ◌↔◌, IsTrue, List, ℕ, map, string_bytes};
-ghost use Rattle.cap_top.specs.Words.{AskForPlain, IsProgramRun};
+ghost use Rattle.std.specs.Prelude.{◌≡◌, ◌↔◌, ◌∷◌, [], IsTrue, List, ℕ, map, string_bytes};
+ghost use Rattle.cap_top.specs.Words.{IsProgramRun};
 ghost use Rattle.cap_top.specs.Run.{Outside};
 
+use crate::check::cap_check;
 use crate::outcome::{Outcome, Status};
 use crate::plain::{cap_plain, say};
 use cap_io::{Gate, Sink, Source};
@@ -11,17 +12,17 @@ use std::alloc::Global;
 /// What the program writes where it does not know the words.
 const USAGE: &[u8] = b"usage: cap run | run --log | plain | plan | check | demo N\n";
 
-/// Whether the words ask for `cap plain`.
-fn ask_for_plain(words: &[String]) -> bool
-    ensures { IsTrue result ↔ AskForPlain (map string_bytes words.now) }
+/// Whether the words are this one alone.
+fn ask_for(wanted: &str, words: &[String]) -> bool
+    ensures { IsTrue result ↔ (map string_bytes words.now ≡ wanted.now ∷ []) }
 {
     match words {
-        [word] => word.as_str() == "plain",
+        [word] => word.as_str() == wanted,
         _ => false,
     }
 }
 
-/// All that the program does. The words are `plain` alone so far: for all others it writes the usage line.
+/// All that the program does. The words are `plain` and `check` so far: for all others it writes the usage line.
 pub fn cap<S: Source, K: Sink, G: Gate>(
     alloc: Global,
     words: &[String],
@@ -34,8 +35,10 @@ pub fn cap<S: Source, K: Sink, G: Gate>(
         (record { left = S.left source.new; read_faults = S.faults source.new; written = K.written sink.new; write_faults = K.faults sink.new })
         result.status }
 {
-    if ask_for_plain(words) {
+    if ask_for("plain", words) {
         cap_plain(alloc, source, sink, gate)
+    } else if ask_for("check", words) {
+        cap_check(alloc, source, sink)
     } else {
         let status = say(sink, Status::Usage, USAGE);
         Outcome { status }

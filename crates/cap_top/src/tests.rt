@@ -133,3 +133,53 @@ fn a_text_past_the_limit_is_too_long(rt: HostRuntime) -> Result<(), Fail> {
     assert!(rt; sink.bytes() == b"too long\n".as_slice());
     Ok(())
 }
+
+// The certificate of the plan from kernels and lifts at 20, up to its line for Pullback, and behind it.
+const CERTIFICATE_BEGINS: &str =
+    "certificate 1 V vec\nreg Identity 1\nreg Compose 1\nreg Zero 1\nreg Add 1\nreg Scale 1\nreg IsCongruent 2\nreg DirectSum 5\nreg Kernel 20\nreg Lift 20\nop Identity prim 1\nop Compose prim 1\nop Zero prim 1\nop Add prim 1\nop Negate rule 1 2\nop Subtract rule 2 4\nop Scale prim 1\nop IsCongruent prim 2\nop IsZero rule 6 4\nop ZeroObject missing\nop DirectSum prim 5\nop Product rule 9 6\nop Coproduct rule 10 6\nop Pair rule 13 32\nop Copair missing\nop Kernel prim 20\nop KernelLift rule 29 21\nop Cokernel missing\nop CokernelColift missing\nop WeakKernel rule 27 21\nop WeakCokernel missing\nop Lift prim 20\nop Colift missing\nop IsMono rule 31 25\nop IsEpi missing\nop IsIso rule 37 28\nop IsSplitMono missing\nop IsSplitEpi rule 41 23\nop Inverse rule 44 27\nop Section rule 42 22\nop Retraction missing\nop Equalizer rule 19 25\nop Coequalizer missing\n";
+
+const CERTIFICATE_ENDS: &str =
+    "op Pushout missing\nop Image missing\nop Coimage missing\nop KernelMap rule 50 23\nop CokernelMap missing\nop Intersection rule 52 36\nop Union missing\nop IsSubobject rule 54 21\nop Homology missing\nop IsExact missing\n";
+
+#[test]
+fn certificates_are_accepted_rejected_or_refused(rt: HostRuntime) -> Result<(), Fail> {
+    let alloc = rt.alloc();
+    for (pullback, end, status, output) in [
+        ("rule 21 34", "end\n", Status::Ok, "accepted\n"),
+        (
+            "rule 21 35",
+            "end\n",
+            Status::Rejected,
+            "rejected: line 44\n",
+        ),
+        (
+            "rule 21 33",
+            "end\n",
+            Status::Rejected,
+            "rejected: line 44\n",
+        ),
+        (
+            "rule 21 34",
+            "",
+            Status::BadScript,
+            "bad script: line 55 column 1 syntax\n",
+        ),
+        (
+            "rule 60 34",
+            "end\n",
+            Status::BadScript,
+            "bad script: line 44 column 18 limit\n",
+        ),
+    ] {
+        let input = format!(in alloc;
+            "{CERTIFICATE_BEGINS}op Pullback {pullback}\n{CERTIFICATE_ENDS}{end}"
+        )?;
+        let mut source = SureSource::new(input.as_bytes().to_vec(alloc)?);
+        let mut sink = SureSink::new(alloc)?;
+        let words = vec![in alloc; String::from_str(alloc, "check")?]?;
+        let outcome = cap(alloc, &words, &mut source, &mut sink, &OpenGate);
+        assert_eq!(rt; outcome.status, status, "at {pullback}");
+        assert!(rt; sink.bytes() == output.as_bytes(), "at {pullback}");
+    }
+    Ok(())
+}

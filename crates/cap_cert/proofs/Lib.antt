@@ -1,0 +1,10 @@
+pub mod Products
+pub mod TrueCerts
+pub mod Pushed
+pub mod WordTests
+pub mod OneToken
+pub mod Complete
+pub mod Sound
+pub mod FirstFaults
+pub mod Values
+pub mod Refused

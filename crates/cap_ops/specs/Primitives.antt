@@ -1,0 +1,58 @@
+-- What a primitive gives: its answer's data are the offered category's, and its ends are the arguments' and those of its new objects.
+use Rattle.std.specs.Prelude.{◌≡◌, ℕ, List, Option, Some, Result, Ok, Err}
+use Rattle.cap_names.specs.declared.identifiers.Handle.{Handle}
+use Rattle.cap_laws.specs.Linear.{CategoryData}
+use Rattle.cap_laws.specs.declared.faults.CatFault.{CatFault}
+use Rattle.cap_laws.specs.declared.faults.CatFault.TheVariants.{TooLarge, NoMemory}
+use Rattle.cap_ops.specs.declared.plans.Kind.{Kind}
+use Rattle.cap_ops.specs.declared.arrows.End.{End}
+use Rattle.cap_ops.specs.declared.keys.Arg.{Arg}
+use Rattle.cap_ops.specs.declared.keys.PrimOut.{PrimOut}
+use Rattle.cap_ops.specs.Values.{FitsWithAnswer}
+use Rattle.cap_ops.specs.Arrows.{Between, ValueOver, over, arguments, olds, out_value}
+use Rattle.cap_ops.specs.Told.{Tells, TellsAll, IsDatum, AreObjects, end_object}
+use Rattle.cap_ops.specs.Meaning.{Meaning}
+
+-- what a category offers: the category, and what its primitives do on data of every size
+pub record OfferData (O M : Type 0) : Type 1 where
+  pub category : CategoryData O (Between O M)
+  pub kind : Kind
+  -- the default weight of an operation's primitive, where it is offered
+  pub weight : ℕ → Option ℕ
+  -- the answer of an operation's primitive
+  pub answer : ℕ → List (ValueOver O M) → ValueOver O M → Type 0
+  -- the new objects of that answer
+  pub fresh : ℕ → List (ValueOver O M) → List O
+  -- it meets a matrix of this size past the limits
+  pub large : ℕ → List (ValueOver O M) → ℕ → ℕ → Type 0
+
+abbrev pub prime_of : {O M : Type 0} → OfferData O M → ℕ
+prime_of D = D.category.prime
+
+-- an answer with its new objects: the data are those of the primitive's answer, its ends that the signature gives are the arguments', and one letter has one end
+pub record PrimAnswers {O M : Type 0} (D : OfferData O M) (told : Handle → Option O) (op : ℕ) (args : List (Arg M)) (given : PrimOut O M) : Type 0 where
+  pub data_of : List (ValueOver O M)
+  pub tells_arguments : TellsAll told (arguments args) data_of
+  pub value : ValueOver End M
+  pub is_value : out_value given.out ≡ Some value
+  pub out : ValueOver O M
+  pub tells : Tells (end_object told given.fresh) value out
+  pub answers : D.answer op data_of out
+  pub fresh_is : given.fresh ≡ D.fresh op data_of
+  pub fresh_objects : AreObjects D.category given.fresh
+  pub is_datum : IsDatum D.category out
+  pub fits : FitsWithAnswer (over (prime_of D)) op (olds (arguments args)) value
+
+pub record PrimIsLarge {O M : Type 0} (D : OfferData O M) (told : Handle → Option O) (op : ℕ) (args : List (Arg M)) (rows columns : ℕ) : Type 0 where
+  pub data_of : List (ValueOver O M)
+  pub tells_arguments : TellsAll told (arguments args) data_of
+  pub large : D.large op data_of rows columns
+
+abbrev pub PrimGives : {O M : Type 0} → OfferData O M → (Handle → Option O) → ℕ → List (Arg M) → Result (PrimOut O M) CatFault → Type 0
+PrimGives D told op args (Ok given) = PrimAnswers D told op args given
+PrimGives D told op args (Err (TooLarge rows columns)) = PrimIsLarge D told op args rows columns
+PrimGives D told op args (Err NoMemory) = Unit {0}
+
+-- each answer of a primitive has its operation's meaning
+pub record PrimsMean {O M : Type 0} (D : OfferData O M) : Type 0 where
+  pub means : (op : ℕ) (args : List (ValueOver O M)) (v : ValueOver O M) → D.answer op args v → Meaning D.category op args v

@@ -1,0 +1,2 @@
+pub mod TruePlans
+pub mod RunLaws
