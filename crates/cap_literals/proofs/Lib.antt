@@ -1,0 +1,5 @@
+pub mod Symbols
+pub mod Parts
+pub mod Sums
+pub mod Values
+pub mod Laws
