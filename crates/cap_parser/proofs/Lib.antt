@@ -1,0 +1,4 @@
+pub mod CommandLaws
+pub mod BlockLaws
+pub mod ScriptLaws
+pub mod TextLaws

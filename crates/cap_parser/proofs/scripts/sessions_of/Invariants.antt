@@ -1,0 +1,16 @@
+use Rattle.std.proofs.Common.{◌≡◌, length}
+use Rattle.cap_reading.specs.Steps.{many, with_front}
+use Rattle.cap_grammar.specs.declared.symbol.Fixed.TheVariants as word
+use Rattle.cap_lines.specs.Marks.{marks}
+use Rattle.cap_literals.specs.Reading.{is}
+use Rattle.cap_parser.specs.Scripts.{mark_starts, session_at}
+use Rattle.cap_parser.proofs.scripts.sessions_of.Given as goal
+
+abbrev pub invariant-nodes : goal.invariant-nodes
+invariant-nodes l = record {
+  read : with_front l.sessions (many (mark_starts (is word.Session)) session_at (marks l.rest l.others)) ≡ many (mark_starts (is word.Session)) session_at (marks l.symbols l.places);
+  lengths : length l.rest ≡ length l.others;
+}
+
+abbrev pub decreases-nodes : goal.decreases-nodes
+decreases-nodes l = length l.rest
