@@ -1,0 +1,7 @@
+use Rattle.std.proofs.Common.{◌≡◌, ◌++◌, take}
+use Rattle.cap_block_faults.specs.Marks.{each}
+use Rattle.cap_block_faults.specs.Blocks.{term_item, most_16}
+use Rattle.cap_block_faults.proofs.blocks.put_sum.Given as goal
+
+abbrev pub invariant-terms : goal.invariant-terms
+invariant-terms l = l.marks.items ≡ l.fn.marks.items ++ each (term_item l.lines most_16) (take l.i l.terms)

@@ -1,0 +1,4 @@
+pub mod Operations
+pub mod FirstOfBlock
+pub mod Loops
+mod Examples

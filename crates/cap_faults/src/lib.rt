@@ -1,0 +1,16 @@
+//! The faults of a script: names, sorts and limits.
+#![tactic(auto)]
+
+mod arguments;
+mod blocks;
+mod commands;
+mod fault;
+mod parts;
+mod scripts;
+#[cfg(test)]
+mod tests;
+mod values;
+
+pub use fault::CheckFault;
+pub use scripts::faultless;
+pub use values::Value;
