@@ -1,0 +1,2 @@
+pub mod WithEnds
+pub mod Laws

@@ -1,0 +1,14 @@
+//! Scripts that are sound: names, sorts and limits.
+#![tactic(auto)]
+
+mod building;
+mod checked;
+mod checking;
+#[cfg(test)]
+mod tests;
+
+pub use building::built;
+pub use cap_checked::CheckedObj;
+pub use cap_faults::CheckFault;
+pub use checked::Checked;
+pub use checking::check;

@@ -1,0 +1,6 @@
+use Rattle.std.proofs.Common.{◌≡◌, map, take}
+use Rattle.cap_checked.specs.Checked.{map_at_element}
+use Rattle.cap_checked.proofs.objects.maps_at_elements.Given as goal
+
+abbrev pub invariant-maps : goal.invariant-maps
+invariant-maps l = l.checked.items ≡ map (map_at_element l.names) (take l.map-index l.maps)

@@ -1,0 +1,13 @@
+//! Scripts with numbers in place of names.
+#![tactic(auto)]
+
+mod literals;
+mod numbers;
+mod objects;
+mod scripts;
+#[cfg(test)]
+mod tests;
+mod tree;
+
+pub use scripts::checked;
+pub use tree::{Checked, CheckedObj};
