@@ -148,11 +148,11 @@ fn realistic_script_is_printed_and_parsed_again(rt: HostRuntime) {
 
 #[test]
 fn each_front_of_the_realistic_script_is_one_or_ends_in_its_fault(rt: HostRuntime) {
-    let mut line = 1;
+    let mut line: u32 = 1;
     for n in 0..REALISTIC.len() {
         let front = &REALISTIC[..n];
         if n > 0 && REALISTIC[n - 1] == b'\n' {
-            line += 1;
+            line = line.saturating_add(1);
         }
         match parse(rt.alloc(), front) {
             Ok(_script) => {}
