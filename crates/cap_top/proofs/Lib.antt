@@ -4,4 +4,3 @@ mod Scanned
 mod Values
 mod Judged
 mod Runs
-mod CheckRuns

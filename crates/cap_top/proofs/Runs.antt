@@ -1,43 +1,46 @@
--- A run that says what it was called for is a run of `cap plain`.
+-- A run that says what it was called for is a run of its command.
 use Rattle.std.proofs.Common.{◌≡◌, ℕ, List, Option, sym, subst, ⊎_elim}
 use Rattle.cap_io.specs.Reading.{ConsumesAll}
 use Rattle.cap_io.specs.Writing.{Adds}
 use Rattle.cap_top.specs.declared.outcome.Status.{Status}
 use Rattle.cap_top.specs.declared.outcome.Status.TheVariants.{Ok, Rejected, Usage, ReadFault, WriteFault, TooLong, BadScript, NoMemory}
-use Rattle.cap_top.specs.Run.{Outside, CallsFor, IsPlainRun, IsJudged, IsSaid, byte_limit}
+use Rattle.cap_top.specs.declared.judging.Said.{Said}
+use Rattle.cap_top.specs.declared.judging.Said.TheVariants as said
+use Rattle.cap_top.specs.Judged.{Judging}
+use Rattle.cap_top.specs.Run.{Outside, CallsFor, IsRun, IsSaid, byte_limit, status_of}
 
-pub judged_calls : (before after : Outside) (status : Status) (bytes text : List ℕ) → IsJudged bytes status text → ConsumesAll byte_limit before.left after.left bytes → CallsFor before after status text
-judged_calls before after Ok bytes text h all = record { bytes = bytes; taken = all; are = h }
-judged_calls before after BadScript bytes text h all = record { bytes = bytes; taken = all; are = h }
-judged_calls before after Rejected bytes text h all = h
-judged_calls before after Usage bytes text h all = h
-judged_calls before after ReadFault bytes text h all = h
-judged_calls before after WriteFault bytes text h all = h
-judged_calls before after TooLong bytes text h all = absurd h
-judged_calls before after NoMemory bytes text h all = h
+pub judged_calls : (says : Judging) (before after : Outside) (what : Said) (bytes text : List ℕ) → says bytes what text → ConsumesAll byte_limit before.left after.left bytes → CallsFor says before after (status_of what) text
+judged_calls says before after said.Answered bytes text h all = record { bytes = bytes; taken = all; are = h }
+judged_calls says before after said.Rejected bytes text h all = record { bytes = bytes; taken = all; are = h }
+judged_calls says before after said.Refused bytes text h all = record { bytes = bytes; taken = all; are = h }
 
-written-run : (before after : Outside) (status : Status) (text : List ℕ) → CallsFor before after status text → Adds before.written after.written text → IsPlainRun before after status
-written-run before after Ok text called added = record { text = text; called_for = called; added = added }
-written-run before after BadScript text called added = record { text = text; called_for = called; added = added }
-written-run before after TooLong text called added = record { text = text; called_for = called; added = added }
-written-run before after Rejected text called added = called
-written-run before after Usage text called added = called
-written-run before after ReadFault text called added = absurd called
-written-run before after WriteFault text called added = absurd called
-written-run before after NoMemory text called added = absurd called
+written-run : (says : Judging) (before after : Outside) (status : Status) (text : List ℕ) → CallsFor says before after status text → Adds before.written after.written text → IsRun says before after status
+written-run says before after Ok text called added = record { text = text; called_for = called; added = added }
+written-run says before after Rejected text called added = record { text = text; called_for = called; added = added }
+written-run says before after BadScript text called added = record { text = text; called_for = called; added = added }
+written-run says before after TooLong text called added = record { text = text; called_for = called; added = added }
+written-run says before after Usage text called added = called
+written-run says before after ReadFault text called added = absurd called
+written-run says before after WriteFault text called added = absurd called
+written-run says before after NoMemory text called added = absurd called
 
-pub said_run : (before after : Outside) (status : Status) (text : List ℕ) (said : Status) → CallsFor before after status text
-    → IsSaid before.written before.write_faults after.written after.write_faults status text said → IsPlainRun before after said
-said_run before after status text said called h = ⊎_elim
-    (λ whole. subst (IsPlainRun before after) (sym whole.0) (written-run before after status text called whole.1))
-    (λ front. subst (IsPlainRun before after) (sym front.0) (record { status = status; text = text; called_for = called; added = front.1; risen = front.2 }))
+pub said_run : (says : Judging) (before after : Outside) (status : Status) (text : List ℕ) (ended : Status) → CallsFor says before after status text
+    → IsSaid before.written before.write_faults after.written after.write_faults status text ended → IsRun says before after ended
+said_run says before after status text ended called h = ⊎_elim
+    (λ whole. subst (IsRun says before after) (sym whole.0) (written-run says before after status text called whole.1))
+    (λ front. subst (IsRun says before after) (sym front.0) (record { status = status; text = text; called_for = called; added = front.1; risen = front.2 }))
     h
 
+pub judged_run : (says : Judging) (before after : Outside) (what : Said) (bytes text : List ℕ) (status ended : Status) → says bytes what text → ConsumesAll byte_limit before.left after.left bytes → status ≡ status_of what
+    → IsSaid before.written before.write_faults after.written after.write_faults status text ended → IsRun says before after ended
+judged_run says before after what bytes text status ended h all is told =
+    said_run says before after status text ended (subst (λ s. CallsFor says before after s text) (sym is) (judged_calls says before after what bytes text h all)) told
+
 -- the same, for a sink and a status that are these
-pub same_run : {K : Type 0} (written : K → Option (List ℕ)) (faults : K → ℕ) (before : Outside) (left : Option (List ℕ)) (read_faults : ℕ) {now later : K} {status said : Status}
-    → now ≡ later → status ≡ said
-    → IsPlainRun before (record { left = left; read_faults = read_faults; written = written later; write_faults = faults later }) said
-    → IsPlainRun before (record { left = left; read_faults = read_faults; written = written now; write_faults = faults now }) status
-same_run {K} written faults before left read_faults {now} {later} {status} {said} e f h =
-    subst (λ (k : K). IsPlainRun before (record { left = left; read_faults = read_faults; written = written k; write_faults = faults k }) status) (sym e)
-    (subst (IsPlainRun before (record { left = left; read_faults = read_faults; written = written later; write_faults = faults later })) (sym f) h)
+pub same_run : {K : Type 0} (says : Judging) (written : K → Option (List ℕ)) (faults : K → ℕ) (before : Outside) (left : Option (List ℕ)) (read_faults : ℕ) {now later : K} {status ended : Status}
+    → now ≡ later → status ≡ ended
+    → IsRun says before (record { left = left; read_faults = read_faults; written = written later; write_faults = faults later }) ended
+    → IsRun says before (record { left = left; read_faults = read_faults; written = written now; write_faults = faults now }) status
+same_run {K} says written faults before left read_faults {now} {later} {status} {ended} e f h =
+    subst (λ (k : K). IsRun says before (record { left = left; read_faults = read_faults; written = written k; write_faults = faults k }) status) (sym e)
+    (subst (IsRun says before (record { left = left; read_faults = read_faults; written = written later; write_faults = faults later })) (sym f) h)

@@ -1,7 +1,8 @@
 pub mod Text
 pub mod Form
 pub mod Numbers
+pub mod Status
+pub mod Refusals
+pub mod Judged
 pub mod Run
 pub mod Words
-pub mod Status
-pub mod CheckRun

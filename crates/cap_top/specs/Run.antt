@@ -5,7 +5,9 @@ use Rattle.cap_io.specs.Reading.{ConsumesSome, ConsumesAll}
 use Rattle.cap_io.specs.Writing.{Adds, AddsFront}
 use Rattle.cap_top.specs.declared.outcome.Status.{Status}
 use Rattle.cap_top.specs.declared.outcome.Status.TheVariants.{Ok, Rejected, Usage, ReadFault, WriteFault, TooLong, BadScript, NoMemory}
-use Rattle.cap_top.specs.Form.{IsForm, IsAnswer}
+use Rattle.cap_top.specs.declared.judging.Said.{Said}
+use Rattle.cap_top.specs.declared.judging.Said.TheVariants as said
+use Rattle.cap_top.specs.Judged.{Judging, IsPlainJudged, IsCheckJudged}
 
 -- how many bytes a script may have
 abbrev pub byte_limit : ℕ
@@ -31,39 +33,34 @@ pub record TookAll (before after : Outside) (P : List ℕ → Type 0) : Type 0 w
   pub taken : ConsumesAll byte_limit before.left after.left bytes
   pub are : P bytes
 
--- the run read this input, which calls for this status and this text: the answer to a script; the refusal of what is no script; or of what is too long
-abbrev pub CallsFor : Outside → Outside → Status → List ℕ → Type 0
-CallsFor before after Ok text = TookAll before after (λ bytes. IsAnswer bytes text)
-CallsFor before after BadScript text = TookAll before after (λ bytes. (IsForm bytes → ⊥) × (text ≡ codes "bad script\n"))
-CallsFor before after TooLong text = ConsumesSome before.left after.left (λ bytes. (byte_limit < length bytes) × (text ≡ codes "too long\n"))
-CallsFor before after Rejected text = ⊥
-CallsFor before after Usage text = ⊥
-CallsFor before after ReadFault text = ⊥
-CallsFor before after WriteFault text = ⊥
-CallsFor before after NoMemory text = ⊥
+-- the status that a saying calls for
+abbrev pub status_of : Said → Status
+status_of said.Answered = Ok
+status_of said.Rejected = Rejected
+status_of said.Refused = BadScript
 
--- the same of the bytes of a whole input
-abbrev pub IsJudged : List ℕ → Status → List ℕ → Type 0
-IsJudged bytes Ok text = IsAnswer bytes text
-IsJudged bytes BadScript text = (IsForm bytes → ⊥) × (text ≡ codes "bad script\n")
-IsJudged bytes TooLong text = ⊥
-IsJudged bytes Rejected text = ⊥
-IsJudged bytes Usage text = ⊥
-IsJudged bytes ReadFault text = ⊥
-IsJudged bytes WriteFault text = ⊥
-IsJudged bytes NoMemory text = ⊥
+-- the run read this input, which calls for this status and this text: what the command says of the whole input, or that it is too long
+abbrev pub CallsFor : Judging → Outside → Outside → Status → List ℕ → Type 0
+CallsFor says before after Ok text = TookAll before after (λ bytes. says bytes said.Answered text)
+CallsFor says before after Rejected text = TookAll before after (λ bytes. says bytes said.Rejected text)
+CallsFor says before after BadScript text = TookAll before after (λ bytes. says bytes said.Refused text)
+CallsFor says before after TooLong text = ConsumesSome before.left after.left (λ bytes. (byte_limit < length bytes) × (text ≡ codes "too long\n"))
+CallsFor says before after Usage text = ⊥
+CallsFor says before after ReadFault text = ⊥
+CallsFor says before after WriteFault text = ⊥
+CallsFor says before after NoMemory text = ⊥
 
 -- what the run called for was written whole
-pub record Wrote (before after : Outside) (status : Status) : Type 0 where
+pub record Wrote (says : Judging) (before after : Outside) (status : Status) : Type 0 where
   pub text : List ℕ
-  pub called_for : CallsFor before after status text
+  pub called_for : CallsFor says before after status text
   pub added : Adds before.written after.written text
 
 -- the sink failed when the front of what the run called for was written
-pub record WroteFront (before after : Outside) : Type 0 where
+pub record WroteFront (says : Judging) (before after : Outside) : Type 0 where
   pub status : Status
   pub text : List ℕ
-  pub called_for : CallsFor before after status text
+  pub called_for : CallsFor says before after status text
   pub added : AddsFront before.written after.written text
   pub risen : HasRisen before.write_faults after.write_faults
 
@@ -83,16 +80,23 @@ pub record RanOut (before after : Outside) : Type 0 where
   pub taken : ConsumesSome before.left after.left (λ bytes. Unit {0})
   pub quiet : WroteNothing before after
 
--- what `cap plain` does, by its status
+-- what a command that judges its input does, by its status
+abbrev pub IsRun : Judging → Outside → Outside → Status → Type 0
+IsRun says before after Ok = Wrote says before after Ok
+IsRun says before after Rejected = Wrote says before after Rejected
+IsRun says before after BadScript = Wrote says before after BadScript
+IsRun says before after TooLong = Wrote says before after TooLong
+IsRun says before after WriteFault = WroteFront says before after
+IsRun says before after ReadFault = ReadFailed before after
+IsRun says before after NoMemory = RanOut before after
+IsRun says before after Usage = ⊥
+
+-- what `cap plain` does, and what `cap check` does
 abbrev pub IsPlainRun : Outside → Outside → Status → Type 0
-IsPlainRun before after Ok = Wrote before after Ok
-IsPlainRun before after BadScript = Wrote before after BadScript
-IsPlainRun before after TooLong = Wrote before after TooLong
-IsPlainRun before after WriteFault = WroteFront before after
-IsPlainRun before after ReadFault = ReadFailed before after
-IsPlainRun before after NoMemory = RanOut before after
-IsPlainRun before after Usage = ⊥
-IsPlainRun before after Rejected = ⊥
+IsPlainRun before after status = IsRun IsPlainJudged before after status
+
+abbrev pub IsCheckRun : Outside → Outside → Status → Type 0
+IsCheckRun before after status = IsRun IsCheckJudged before after status
 
 -- the usage line
 abbrev pub usage_text : List ℕ

@@ -1,8 +1,7 @@
 -- The lists of words that the program knows.
 use Rattle.std.specs.Prelude.{◌≡◌, List, [], ◌∷◌, codes, ℕ}
 use Rattle.cap_top.specs.declared.outcome.Status.{Status}
-use Rattle.cap_top.specs.Run.{Outside, IsPlainRun, IsUsageRun}
-use Rattle.cap_top.specs.CheckRun.{IsCheckRun}
+use Rattle.cap_top.specs.Run.{Outside, IsPlainRun, IsCheckRun, IsUsageRun}
 
 -- the words ask for `cap plain`
 abbrev pub AskForPlain : List (List ℕ) → Type 0

@@ -1,36 +1,40 @@
 // `cap check`: certificates from standard input, and what is said of them.
-ghost use Rattle.std.specs.Prelude.{◌≡◌, ◌<◌, ◌-◌, ◌^◌, IfOk, string_bytes, length};
-ghost use Rattle.cap_top.specs.Run.{Outside};
-ghost use Rattle.cap_top.specs.CheckRun.{status_of, IsCheckJudged, IsCheckRun};
+ghost use Rattle.std.specs.Prelude.{◌≡◌, List, ℕ};
+ghost use Rattle.cap_top.specs.Judged.{said_of, IsCheckJudged};
+ghost use Rattle.cap_top.specs.Run.{Outside, IsCheckRun};
 
-use crate::outcome::{Outcome, Status};
-use crate::plain::{BYTE_LIMIT, say};
-use cap_io::{ReadEnd, Sink, Source, read_all};
+use crate::judging::{Judge, Said};
+use crate::outcome::Outcome;
+use crate::running::run;
+use cap_io::{Sink, Source};
 use cap_judge::{Judgement, judge, judgement_text};
 use std::alloc::{AllocError, Global};
 
-/// The status that a judgement calls for.
-fn status_of(judgement: &Judgement) -> Status
-    ensures { result ≡ status_of judgement.now }
+/// What a judgement says.
+fn said_of(judgement: &Judgement) -> Said
+    ensures { result ≡ said_of judgement.now }
 {
     match judgement {
-        Judgement::Accepted => Status::Ok,
-        Judgement::Rejected { .. } => Status::Rejected,
-        Judgement::Refused(_) => Status::BadScript,
+        Judgement::Accepted => Said::Answered,
+        Judgement::Rejected { .. } => Said::Rejected,
+        Judgement::Refused(_) => Said::Refused,
     }
 }
 
-/// The status and the text for the bytes of a whole input.
-fn verdict_on(alloc: Global, bytes: &[u8]) -> Result<(Status, String), AllocError>
-    requires { length bytes.now < 2 ^ 32 - 1 }
-    ensures { IfOk result (λ answer. IsCheckJudged bytes.now answer.0 (string_bytes answer.1)) }
-{
-    match judge(alloc, bytes) {
-        Ok(judgement) => {
-            let text = judgement_text(alloc, &judgement)?;
-            Ok((status_of(&judgement), text))
+/// The command `check`.
+struct Check;
+
+impl Judge for Check {
+    ghost says = { IsCheckJudged };
+
+    fn judge(&self, alloc: Global, bytes: &[u8]) -> Result<(Said, String), AllocError> {
+        match judge(alloc, bytes) {
+            Ok(judgement) => {
+                let text = judgement_text(alloc, &judgement)?;
+                Ok((said_of(&judgement), text))
+            }
+            Err(_) => Err(AllocError),
         }
-        Err(_) => Err(AllocError),
     }
 }
 
@@ -42,14 +46,5 @@ pub fn cap_check<S: Source, K: Sink>(alloc: Global, source: &mut S, sink: &mut K
         (record { left = S.left source.new; read_faults = S.faults source.new; written = K.written sink.new; write_faults = K.faults sink.new })
         result.status }
 {
-    let status = match read_all(alloc, source, BYTE_LIMIT) {
-        Ok(bytes) => match verdict_on(alloc, &bytes) {
-            Ok((status, text)) => say(sink, status, text.as_bytes()),
-            Err(_) => Status::NoMemory,
-        },
-        Err(ReadEnd::Fault) => Status::ReadFault,
-        Err(ReadEnd::TooLong) => say(sink, Status::TooLong, b"too long\n"),
-        Err(ReadEnd::NoMemory) => Status::NoMemory,
-    };
-    Outcome { status }
+    run(alloc, &Check, source, sink)
 }

@@ -3,12 +3,16 @@
 
 mod check;
 mod form;
+mod judging;
 mod outcome;
 mod plain;
 mod program;
+mod refusals;
+mod running;
 mod text;
 
 pub use check::cap_check;
+pub use judging::{Judge, Said};
 pub use outcome::{Outcome, Status};
 pub use plain::cap_plain;
 pub use program::cap;

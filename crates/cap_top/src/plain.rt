@@ -1,40 +1,56 @@
 // `cap plain`: a script from standard input, and what it prints.
-ghost use Rattle.std.specs.Prelude.{◌≡◌, IfOk, IfErr, OnErr, List, ℕ, string_bytes};
-ghost use Rattle.cap_top.specs.Form.{IsForm, IsAnswer};
-ghost use Rattle.cap_top.specs.Run.{Outside, IsPlainRun, IsJudged, IsSaid};
+ghost use Rattle.std.specs.Prelude.{◌≡◌, ◌⊎◌, ◌<◌, ◌-◌, ◌^◌, IfOk, List, ℕ, length};
+ghost use Rattle.cap_top.specs.Refusals.{IsFault, not_yet};
+ghost use Rattle.cap_top.specs.Judged.{IsPlainJudged, IsNotYet};
+ghost use Rattle.cap_top.specs.Run.{Outside, IsPlainRun};
 
 use crate::form::read_form;
-use crate::outcome::{Outcome, Status};
+use crate::judging::{Judge, Said};
+use crate::outcome::Outcome;
+use crate::refusals::{read_script, refusal_text};
+use crate::running::run;
 use crate::text::output_text;
-use cap_io::{Gate, ReadEnd, Sink, Source, read_all, write_all};
+use cap_check::CheckFault;
+use cap_io::{Gate, Sink, Source};
 use cap_matrix::MatrixFault;
+use cap_names::{BadScript, Reason};
 use cap_reduce::null_rows;
 use std::alloc::{AllocError, Global};
 
-/// How many bytes a script may have.
-pub(crate) const BYTE_LIMIT: usize = 1_048_576;
-
-/// The status and the text for the bytes of a whole input: the answer to a script, or the refusal.
-fn answer_to(alloc: Global, bytes: &[u8]) -> Result<(Status, String), AllocError>
-    ensures { IfOk result (λ answer. IsJudged bytes.now answer.0 (string_bytes answer.1)) }
+/// Why bytes that are not of the first form are refused: the first fault, or a limit at the beginning where there is none.
+fn why(alloc: Global, bytes: &[u8]) -> Result<BadScript, AllocError>
+    requires { length bytes.now < 2 ^ 32 - 1 }
+    ensures { IfOk result (λ bad. IsFault bytes.now bad ⊎ IsNotYet bytes.now bad) }
 {
-    match read_form(alloc, bytes)? {
-        None => Ok((Status::BadScript, String::from_str(alloc, "bad script\n")?)),
-        Some(f) => match null_rows(alloc, &f) {
-            Ok(k) => Ok((Status::Ok, output_text(alloc, &f, &k)?)),
-            Err(MatrixFault::NoMemory) => Err(AllocError),
-            Err(MatrixFault::TooLarge(_)) => unreachable!(),
-        },
+    match read_script(alloc, bytes) {
+        Ok(_script) => Ok(BadScript {
+            line: 1,
+            column: 1,
+            reason: Reason::Limit,
+        }),
+        Err(CheckFault::Bad(bad)) => Ok(bad),
+        Err(CheckFault::NoMemory) => Err(AllocError),
     }
 }
 
-/// Writes a text, and answers the status, or WriteFault where the sink fails.
-pub(crate) fn say<K: Sink>(sink: &mut K, status: Status, text: &[u8]) -> Status
-    ensures { IsSaid (K.written sink.old) (K.faults sink.old) (K.written sink.new) (K.faults sink.new) status text.now result }
-{
-    match write_all(sink, text) {
-        Ok(()) => status,
-        Err(_) => Status::WriteFault,
+/// The command `plain`, over the first form of script.
+struct Plain;
+
+impl Judge for Plain {
+    ghost says = { IsPlainJudged };
+
+    fn judge(&self, alloc: Global, bytes: &[u8]) -> Result<(Said, String), AllocError> {
+        match read_form(alloc, bytes)? {
+            None => {
+                let bad = why(alloc, bytes)?;
+                Ok((Said::Refused, refusal_text(alloc, bad)?))
+            }
+            Some(f) => match null_rows(alloc, &f) {
+                Ok(k) => Ok((Said::Answered, output_text(alloc, &f, &k)?)),
+                Err(MatrixFault::NoMemory) => Err(AllocError),
+                Err(MatrixFault::TooLarge(_)) => unreachable!(),
+            },
+        }
     }
 }
 
@@ -52,14 +68,5 @@ pub fn cap_plain<S: Source, K: Sink, G: Gate>(
         result.status }
 {
     let _ = gate;
-    let status = match read_all(alloc, source, BYTE_LIMIT) {
-        Ok(bytes) => match answer_to(alloc, &bytes) {
-            Ok((status, text)) => say(sink, status, text.as_bytes()),
-            Err(_) => Status::NoMemory,
-        },
-        Err(ReadEnd::Fault) => Status::ReadFault,
-        Err(ReadEnd::TooLong) => say(sink, Status::TooLong, b"too long\n"),
-        Err(ReadEnd::NoMemory) => Status::NoMemory,
-    };
-    Outcome { status }
+    run(alloc, &Plain, source, sink)
 }

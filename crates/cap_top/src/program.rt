@@ -5,7 +5,8 @@ ghost use Rattle.cap_top.specs.Run.{Outside};
 
 use crate::check::cap_check;
 use crate::outcome::{Outcome, Status};
-use crate::plain::{cap_plain, say};
+use crate::plain::cap_plain;
+use crate::running::say;
 use cap_io::{Gate, Sink, Source};
 use std::alloc::Global;
 

@@ -57,29 +57,76 @@ fn kernel_of_a_zero_matrix(rt: HostRuntime) -> Result<(), Fail> {
 }
 
 #[test]
-fn other_texts_are_no_scripts(rt: HostRuntime) -> Result<(), Fail> {
+fn other_texts_are_refused_with_their_first_fault(rt: HostRuntime) -> Result<(), Fail> {
     let head = "category V vec 5\nregister V Kernel 20\nfinalise V\n";
+    let not_yet = "bad script: line 1 column 1 limit\n";
     let wrong = [
-        "",
-        "category V vec 5\n",
-        "object V a = 2\nobject V b = 2\nlet f = V a -> b [1 2; 2 5]\nlet k = V Kernel f\n",
-        "object V a = 02\nobject V b = 2\nlet f = V a -> b [1 2; 2 4]\nlet k = V Kernel f\n",
-        "object V a = 2\nobject V b = 2\nlet f = V a -> b [1 2 ; 2 4]\nlet k = V Kernel f\n",
-        "object V a = 2\nobject V b = 2\nlet f = V a -> b [1 2; 2 4]\nlet k = V Kernel f",
-        "object V a = 2\nobject V b = 2\nlet f = V a -> b [1 2; 2 4]\nlet k = V Kernel f\n\n",
-        "object V a = 2\nobject V b = 2\nlet f = V a -> b [1 2; 2]\nlet k = V Kernel f\n",
-        "object V a = 65\nobject V b = 0\nlet f = V a -> b []\nlet k = V Kernel f\n",
+        ("", not_yet),
+        ("object V a = 2\n", not_yet),
+        (
+            "object V a = 2\nobject V b = 2\nlet f = V a -> b [1 2; 2 5]\nlet k = V Kernel f\n",
+            not_yet,
+        ),
+        (
+            "object V a = 02\nobject V b = 2\nlet f = V a -> b [1 2; 2 4]\nlet k = V Kernel f\n",
+            not_yet,
+        ),
+        (
+            "object V a = 2\nobject V b = 2\nlet f = V a -> b [1 2; 2 4]\nlet k = V Kernel f",
+            not_yet,
+        ),
+        (
+            "object V a = 65\nobject V b = 0\nlet f = V a -> b []\nlet k = V Kernel f\n",
+            not_yet,
+        ),
+        (
+            "category V vec 5\n",
+            "bad script: line 4 column 10 taken\n",
+        ),
+        (
+            "object V a = 2049\n",
+            "bad script: line 4 column 14 limit\n",
+        ),
+        (
+            "object V a = 2\nlet k = V Kernel a\n",
+            "bad script: line 5 column 18 sort\n",
+        ),
+        (
+            "let k = V Kernel f\n",
+            "bad script: line 4 column 18 known\n",
+        ),
     ];
-    for rest in wrong {
+    for (rest, line) in wrong {
         let alloc = rt.alloc();
         let input = format!(in alloc; "{head}{rest}")?;
-        answers(
-            &rt,
-            alloc,
-            input.as_str(),
-            Status::BadScript,
-            "bad script\n",
-        )?;
+        answers(&rt, alloc, input.as_str(), Status::BadScript, line)?;
+    }
+    Ok(())
+}
+
+#[test]
+fn bad_tokens_grammar_and_primes_are_told_with_their_place(rt: HostRuntime) -> Result<(), Fail> {
+    let wrong = [
+        ("", "bad script: line 1 column 1 limit\n"),
+        (
+            "category V vec 9\n",
+            "bad script: line 1 column 16 prime\n",
+        ),
+        (
+            "category V vec 251\n",
+            "bad script: line 1 column 1 limit\n",
+        ),
+        (
+            "category V vec 5\nobject V a ? 2\n",
+            "bad script: line 2 column 12 token\n",
+        ),
+        (
+            "category V vec 5\nobject V a = 2\nlet f = V a -> a [1 2",
+            "bad script: line 3 column 22 syntax\n",
+        ),
+    ];
+    for (input, line) in wrong {
+        answers(&rt, rt.alloc(), input, Status::BadScript, line)?;
     }
     Ok(())
 }

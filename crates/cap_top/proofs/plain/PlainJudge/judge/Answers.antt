@@ -1,5 +1,5 @@
 use Rattle.cap_top.proofs.Judged.{answer_by_basis, basis_keeps_limits}
-use Rattle.cap_top.proofs.plain.answer_to.Goals as goal
+use Rattle.cap_top.proofs.plain.PlainJudge.judge.Goals as goal
 
 pub returns-in-Ok : goal.returns-in-Ok
 returns-in-Ok c =

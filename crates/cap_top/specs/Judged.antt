@@ -1,0 +1,49 @@
+-- What each command says of the bytes of a whole input, and with which text.
+use Rattle.std.specs.Prelude.{◌≡◌, ◌⊎◌, ℕ, List, [], Some}
+use Rattle.cap_names.specs.declared.reasons.BadScript.{BadScript}
+use Rattle.cap_block_faults.specs.Marks.{first}
+use Rattle.cap_checked.specs.declared.tree.Checked.{Checked}
+use Rattle.cap_check.specs.Unbuilt.{unbuilt}
+use Rattle.cap_judge.specs.declared.judgement.Judgement.{Judgement}
+use Rattle.cap_judge.specs.declared.judgement.Judgement.TheVariants as judged
+use Rattle.cap_judge.specs.Judged.{IsJudgement, judgement_text}
+use Rattle.cap_top.specs.declared.judging.Said.{Said}
+use Rattle.cap_top.specs.declared.judging.Said.TheVariants.{Answered, Rejected, Refused}
+use Rattle.cap_top.specs.Form.{IsForm, IsAnswer}
+use Rattle.cap_top.specs.Refusals.{IsSoundText, IsFault, refusal_text, not_yet}
+
+-- what a command says of bytes, with which text
+abbrev pub Judging : Type 1
+Judging = List ℕ → Said → List ℕ → Type 0
+
+-- a script without faults that is not of the first form is told as a limit at its beginning
+pub record IsNotYet (bytes : List ℕ) (bad : BadScript) : Type 0 where
+  pub form : Checked
+  pub sound : IsSoundText bytes form
+  pub told : bad ≡ not_yet
+
+-- `cap plain` refuses what is not of the first form: by the first fault, or as what can't be run yet
+pub record IsRefusedPlain (bytes text : List ℕ) : Type 0 where
+  pub no_form : IsForm bytes → ⊥
+  pub bad : BadScript
+  pub why : IsFault bytes bad ⊎ IsNotYet bytes bad
+  pub text_is : text ≡ refusal_text bad
+
+-- `cap plain`
+abbrev pub IsPlainJudged : Judging
+IsPlainJudged bytes Answered text = IsAnswer bytes text
+IsPlainJudged bytes Refused text = IsRefusedPlain bytes text
+IsPlainJudged bytes Rejected text = ⊥
+
+-- what is said of certificates
+abbrev pub said_of : Judgement → Said
+said_of judged.Accepted = Answered
+said_of (judged.Rejected line) = Rejected
+said_of (judged.Refused bad) = Refused
+
+-- `cap check`
+pub record IsCheckJudged (bytes : List ℕ) (said : Said) (text : List ℕ) : Type 0 where
+  pub judgement : Judgement
+  pub is : IsJudgement bytes judgement
+  pub said_is : said ≡ said_of judgement
+  pub text_is : text ≡ judgement_text judgement
