@@ -1,33 +1,30 @@
 -- Weights that are in their range (this project's own script language).
-use Rattle.std.specs.Prelude.{ℕ, ◌≤◌, List, [], ◌∷◌, Option, Some, None}
+use Rattle.std.specs.Prelude.{ℕ, List, Option, None}
+use Rattle.std.specs.List.{All}
 use Rattle.cap_grammar.specs.declared.tree.Command.{Command}
 use Rattle.cap_grammar.specs.declared.tree.Command.TheVariants.{Register, Finalise, Plan, Object, Src, Tgt, Let, Call}
 use Rattle.cap_grammar.specs.declared.tree.Item.{Item}
 use Rattle.cap_grammar.specs.declared.tree.Item.TheVariants as top
 use Rattle.cap_grammar.specs.declared.tree.Placed.{Placed}
+use Rattle.cap_ops.specs.Derivations.{IsWeight}
 
--- a weight of 1 to 1,000,000, where there is one
-abbrev pub IsWeight : Option ℕ → Type 0
-IsWeight None = Unit {0}
-IsWeight (Some w) = (1 ≤ w) × (w ≤ 1000000)
+-- the weight that a command writes
+abbrev pub written : {O M : Type 0} → Command O M → Option ℕ
+written (Register cat op weight) = weight
+written (Finalise cat) = None
+written (Plan cat) = None
+written (Object cat x lit) = None
+written (Src x of) = None
+written (Tgt x of) = None
+written (Let x cat src tgt lit) = None
+written (Call x cat op args) = None
 
--- a command that registers an operation gives it such a weight, or none
-abbrev pub WeighsWell : {O M : Type 0} → Command O M → Type 0
-WeighsWell (Register cat op weight) = IsWeight weight
-WeighsWell (Finalise cat) = Unit {0}
-WeighsWell (Plan cat) = Unit {0}
-WeighsWell (Object cat x lit) = Unit {0}
-WeighsWell (Src x of) = Unit {0}
-WeighsWell (Tgt x of) = Unit {0}
-WeighsWell (Let x cat src tgt lit) = Unit {0}
-WeighsWell (Call x cat op args) = Unit {0}
+-- the weight that a part writes
+abbrev pub written_weight : {O M : Type 0} → Item O M → Option ℕ
+written_weight (top.Block b) = None
+written_weight (top.Category n over) = None
+written_weight (top.Command c) = written c
 
-abbrev pub IsRanged : {O M : Type 0} → Item O M → Type 0
-IsRanged (top.Block b) = Unit {0}
-IsRanged (top.Category n over) = Unit {0}
-IsRanged (top.Command c) = WeighsWell c
-
--- each part of a list does
+-- each written weight is in the range of weights
 abbrev pub AreRanged : {O M : Type 0} → List (Placed (Item O M)) → Type 0
-AreRanged [] = Unit {0}
-AreRanged (p ∷ ps) = IsRanged p.node × AreRanged ps
+AreRanged parts = All (λ p. IsWeight (written_weight p.node)) parts
