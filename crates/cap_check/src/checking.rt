@@ -2,6 +2,7 @@
 ghost use Rattle.std.specs.Prelude.{◌≡◌, [], IfOk, IfErr};
 ghost use Rattle.cap_faults.specs.Scripts.{script_faults, IsSound, Tells};
 ghost use Rattle.cap_checked.specs.Checked.{checked_of};
+ghost use Rattle.cap_sound.specs.Given.{IsGiven};
 
 use crate::checked::Checked;
 use cap_checked::checked;
@@ -9,8 +10,11 @@ use cap_faults::{CheckFault, faultless};
 use cap_grammar::Script;
 use std::alloc::Global;
 
-/// The checked form of a script, or its first fault of names, sorts and limits.
+/// The checked form of a script that was parsed, or its first fault of names, sorts and limits.
 pub fn check(alloc: Global, script: Script) -> Result<Checked, CheckFault>
+    // The grammar gives the script for some text, of which it keeps the places.
+    requires given { IsGiven script }
+
     // What is answered is the checked form of the script, which has no fault.
     ensures sound { IfOk result (λ c. (script_faults script ≡ []) × (c ≡ checked_of script)) }
 

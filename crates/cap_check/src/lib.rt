@@ -4,6 +4,7 @@
 mod building;
 mod checked;
 mod checking;
+mod laws;
 #[cfg(test)]
 mod tests;
 
@@ -12,3 +13,4 @@ pub use cap_checked::CheckedObj;
 pub use cap_faults::CheckFault;
 pub use checked::Checked;
 pub use checking::check;
+pub use laws::law_form_weights;
