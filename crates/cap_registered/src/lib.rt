@@ -1,0 +1,10 @@
+//! What the commands of a checked script's prelude register, and the certificates of its categories.
+#![tactic(auto)]
+
+mod certifying;
+mod commands;
+mod registering;
+
+pub use certifying::certificates;
+pub use commands::kind_of;
+pub use registering::registered;
