@@ -4,6 +4,7 @@ use Rattle.cap_names.specs.declared.reasons.BadScript.{BadScript}
 use Rattle.cap_block_faults.specs.Marks.{first}
 use Rattle.cap_checked.specs.declared.tree.Checked.{Checked}
 use Rattle.cap_check.specs.Unbuilt.{unbuilt}
+use Rattle.cap_registered.specs.Certificates.{AreCertificates}
 use Rattle.cap_judge.specs.declared.judgement.Judgement.{Judgement}
 use Rattle.cap_judge.specs.declared.judgement.Judgement.TheVariants as judged
 use Rattle.cap_judge.specs.Judged.{IsJudgement, judgement_text}
@@ -34,6 +35,31 @@ abbrev pub IsPlainJudged : Judging
 IsPlainJudged bytes Answered text = IsAnswer bytes text
 IsPlainJudged bytes Refused text = IsRefusedPlain bytes text
 IsPlainJudged bytes Rejected text = ⊥
+
+-- the bytes are a text of a script without faults that can be run, and the text is the certificates of its categories, in order
+pub record IsPlanned (bytes text : List ℕ) : Type 0 where
+  pub form : Checked
+  pub sound : IsSoundText bytes form
+  pub built : unbuilt form.prelude ≡ []
+  pub certificates : AreCertificates form.prelude text
+
+-- the first block or category of a script without faults that can't be run yet
+pub record IsUnbuilt (bytes : List ℕ) (bad : BadScript) : Type 0 where
+  pub form : Checked
+  pub sound : IsSoundText bytes form
+  pub first_unbuilt : first (unbuilt form.prelude) ≡ Some bad
+
+-- `cap plan` refuses a text by its first fault, or by the first block or category that can't be run yet
+pub record IsRefusedPlan (bytes text : List ℕ) : Type 0 where
+  pub bad : BadScript
+  pub why : IsFault bytes bad ⊎ IsUnbuilt bytes bad
+  pub text_is : text ≡ refusal_text bad
+
+-- `cap plan`
+abbrev pub IsPlanJudged : Judging
+IsPlanJudged bytes Answered text = IsPlanned bytes text
+IsPlanJudged bytes Refused text = IsRefusedPlan bytes text
+IsPlanJudged bytes Rejected text = ⊥
 
 -- what is said of certificates
 abbrev pub said_of : Judgement → Said

@@ -7,7 +7,7 @@ use Rattle.cap_top.specs.declared.outcome.Status.{Status}
 use Rattle.cap_top.specs.declared.outcome.Status.TheVariants.{Ok, Rejected, Usage, ReadFault, WriteFault, TooLong, BadScript, NoMemory}
 use Rattle.cap_top.specs.declared.judging.Said.{Said}
 use Rattle.cap_top.specs.declared.judging.Said.TheVariants as said
-use Rattle.cap_top.specs.Judged.{Judging, IsPlainJudged, IsCheckJudged}
+use Rattle.cap_top.specs.Judged.{Judging, IsPlainJudged, IsPlanJudged, IsCheckJudged}
 
 -- how many bytes a script may have
 abbrev pub byte_limit : ℕ
@@ -91,9 +91,12 @@ IsRun says before after ReadFault = ReadFailed before after
 IsRun says before after NoMemory = RanOut before after
 IsRun says before after Usage = ⊥
 
--- what `cap plain` does, and what `cap check` does
+-- what `cap plain`, `cap plan` and `cap check` do
 abbrev pub IsPlainRun : Outside → Outside → Status → Type 0
 IsPlainRun before after status = IsRun IsPlainJudged before after status
+
+abbrev pub IsPlanRun : Outside → Outside → Status → Type 0
+IsPlanRun before after status = IsRun IsPlanJudged before after status
 
 abbrev pub IsCheckRun : Outside → Outside → Status → Type 0
 IsCheckRun before after status = IsRun IsCheckJudged before after status

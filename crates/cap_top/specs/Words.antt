@@ -1,11 +1,15 @@
 -- The lists of words that the program knows.
 use Rattle.std.specs.Prelude.{◌≡◌, List, [], ◌∷◌, codes, ℕ}
 use Rattle.cap_top.specs.declared.outcome.Status.{Status}
-use Rattle.cap_top.specs.Run.{Outside, IsPlainRun, IsCheckRun, IsUsageRun}
+use Rattle.cap_top.specs.Run.{Outside, IsPlainRun, IsPlanRun, IsCheckRun, IsUsageRun}
 
 -- the words ask for `cap plain`
 abbrev pub AskForPlain : List (List ℕ) → Type 0
 AskForPlain words = words ≡ codes "plain" ∷ []
+
+-- the words ask for `cap plan`
+abbrev pub AskForPlan : List (List ℕ) → Type 0
+AskForPlan words = words ≡ codes "plan" ∷ []
 
 -- the words ask for `cap check`
 abbrev pub AskForCheck : List (List ℕ) → Type 0
@@ -14,5 +18,6 @@ AskForCheck words = words ≡ codes "check" ∷ []
 -- what the program does with these words
 pub record IsProgramRun (words : List (List ℕ)) (before after : Outside) (status : Status) : Type 0 where
   pub plain : AskForPlain words → IsPlainRun before after status
+  pub plan : AskForPlan words → IsPlanRun before after status
   pub check : AskForCheck words → IsCheckRun before after status
-  pub usage : (AskForPlain words → ⊥) → (AskForCheck words → ⊥) → IsUsageRun before after status
+  pub usage : (AskForPlain words → ⊥) → (AskForPlan words → ⊥) → (AskForCheck words → ⊥) → IsUsageRun before after status

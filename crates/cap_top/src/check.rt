@@ -27,11 +27,11 @@ struct Check;
 impl Judge for Check {
     ghost says = { IsCheckJudged };
 
-    fn judge(&self, alloc: Global, bytes: &[u8]) -> Result<(Said, String), AllocError> {
+    fn judge(&self, alloc: Global, bytes: &[u8]) -> Result<(Said, Vec<u8>), AllocError> {
         match judge(alloc, bytes) {
             Ok(judgement) => {
                 let text = judgement_text(alloc, &judgement)?;
-                Ok((said_of(&judgement), text))
+                Ok((said_of(&judgement), text.into_bytes()))
             }
             Err(_) => Err(AllocError),
         }

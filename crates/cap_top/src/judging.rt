@@ -1,5 +1,5 @@
 // What a command says of a whole input.
-ghost use Rattle.std.specs.Prelude.{ℕ, ◌<◌, ◌-◌, ◌^◌, IfOk, List, length, string_bytes};
+ghost use Rattle.std.specs.Prelude.{ℕ, ◌<◌, ◌-◌, ◌^◌, IfOk, List, length};
 
 use std::alloc::{AllocError, Global};
 
@@ -22,7 +22,7 @@ pub trait Judge {
     ghost says: { List ℕ → Said → List ℕ → Type 0 };
 
     /// What is said of these bytes, with its text, unless memory runs out.
-    fn judge(&self, alloc: Global, bytes: &[u8]) -> Result<(Said, String), AllocError>
+    fn judge(&self, alloc: Global, bytes: &[u8]) -> Result<(Said, Vec<u8>), AllocError>
         requires { length bytes.now < 2 ^ 32 - 1 }
-        ensures { IfOk result (λ answer. says bytes.now answer.0 (string_bytes answer.1)) };
+        ensures { IfOk result (λ answer. says bytes.now answer.0 answer.1.items) };
 }

@@ -6,6 +6,7 @@ mod form;
 mod judging;
 mod outcome;
 mod plain;
+mod plan;
 mod program;
 mod refusals;
 mod running;
@@ -15,6 +16,7 @@ pub use check::cap_check;
 pub use judging::{Judge, Said};
 pub use outcome::{Outcome, Status};
 pub use plain::cap_plain;
+pub use plan::cap_plan;
 pub use program::cap;
 
 #[cfg(test)]

@@ -39,14 +39,14 @@ struct Plain;
 impl Judge for Plain {
     ghost says = { IsPlainJudged };
 
-    fn judge(&self, alloc: Global, bytes: &[u8]) -> Result<(Said, String), AllocError> {
+    fn judge(&self, alloc: Global, bytes: &[u8]) -> Result<(Said, Vec<u8>), AllocError> {
         match read_form(alloc, bytes)? {
             None => {
                 let bad = why(alloc, bytes)?;
                 Ok((Said::Refused, refusal_text(alloc, bad)?))
             }
             Some(f) => match null_rows(alloc, &f) {
-                Ok(k) => Ok((Said::Answered, output_text(alloc, &f, &k)?)),
+                Ok(k) => Ok((Said::Answered, output_text(alloc, &f, &k)?.into_bytes())),
                 Err(MatrixFault::NoMemory) => Err(AllocError),
                 Err(MatrixFault::TooLarge(_)) => unreachable!(),
             },

@@ -6,6 +6,7 @@ ghost use Rattle.cap_top.specs.Run.{Outside};
 use crate::check::cap_check;
 use crate::outcome::{Outcome, Status};
 use crate::plain::cap_plain;
+use crate::plan::cap_plan;
 use crate::running::say;
 use cap_io::{Gate, Sink, Source};
 use std::alloc::Global;
@@ -23,7 +24,7 @@ fn ask_for(wanted: &str, words: &[String]) -> bool
     }
 }
 
-/// All that the program does. The words are `plain` and `check` so far: for all others it writes the usage line.
+/// All that the program does. The words are `plain`, `plan` and `check` so far: for all others it writes the usage line.
 pub fn cap<S: Source, K: Sink, G: Gate>(
     alloc: Global,
     words: &[String],
@@ -38,6 +39,8 @@ pub fn cap<S: Source, K: Sink, G: Gate>(
 {
     if ask_for("plain", words) {
         cap_plain(alloc, source, sink, gate)
+    } else if ask_for("plan", words) {
+        cap_plan(alloc, source, sink)
     } else if ask_for("check", words) {
         cap_check(alloc, source, sink)
     } else {

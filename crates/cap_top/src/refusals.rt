@@ -1,5 +1,5 @@
 // Scripts from bytes, and why they are refused.
-ghost use Rattle.std.specs.Prelude.{◌≡◌, ◌<◌, ◌-◌, ◌^◌, IfOk, IfErr, length, string_bytes};
+ghost use Rattle.std.specs.Prelude.{◌≡◌, ◌<◌, ◌-◌, ◌^◌, IfOk, IfErr, length};
 ghost use Rattle.cap_top.specs.Refusals.{IsSoundText, IsRefusal, refusal_text};
 
 use cap_check::{CheckFault, Checked, check};
@@ -22,8 +22,8 @@ pub fn read_script(alloc: Global, bytes: &[u8]) -> Result<Checked, CheckFault>
 }
 
 /// The line of a refusal, with its place and reason.
-pub fn refusal_text(alloc: Global, bad: BadScript) -> Result<String, AllocError>
-    ensures { IfOk result (λ text. string_bytes text ≡ refusal_text bad) }
+pub fn refusal_text(alloc: Global, bad: BadScript) -> Result<Vec<u8>, AllocError>
+    ensures { IfOk result (λ text. text.items ≡ refusal_text bad) }
 {
-    judgement_text(alloc, &Judgement::Refused(bad))
+    Ok(judgement_text(alloc, &Judgement::Refused(bad))?.into_bytes())
 }

@@ -45,7 +45,7 @@ pub fn run<J: Judge, S: Source, K: Sink>(
 {
     let status = match read_all(alloc, source, BYTE_LIMIT) {
         Ok(bytes) => match judge.judge(alloc, &bytes) {
-            Ok((said, text)) => say(sink, status_of(said), text.as_bytes()),
+            Ok((said, text)) => say(sink, status_of(said), &text),
             Err(_) => Status::NoMemory,
         },
         Err(ReadEnd::Fault) => Status::ReadFault,

@@ -79,10 +79,7 @@ fn other_texts_are_refused_with_their_first_fault(rt: HostRuntime) -> Result<(),
             "object V a = 65\nobject V b = 0\nlet f = V a -> b []\nlet k = V Kernel f\n",
             not_yet,
         ),
-        (
-            "category V vec 5\n",
-            "bad script: line 4 column 10 taken\n",
-        ),
+        ("category V vec 5\n", "bad script: line 4 column 10 taken\n"),
         (
             "object V a = 2049\n",
             "bad script: line 4 column 14 limit\n",
@@ -108,10 +105,7 @@ fn other_texts_are_refused_with_their_first_fault(rt: HostRuntime) -> Result<(),
 fn bad_tokens_grammar_and_primes_are_told_with_their_place(rt: HostRuntime) -> Result<(), Fail> {
     let wrong = [
         ("", "bad script: line 1 column 1 limit\n"),
-        (
-            "category V vec 9\n",
-            "bad script: line 1 column 16 prime\n",
-        ),
+        ("category V vec 9\n", "bad script: line 1 column 16 prime\n"),
         (
             "category V vec 251\n",
             "bad script: line 1 column 1 limit\n",
@@ -187,6 +181,64 @@ const CERTIFICATE_BEGINS: &str =
 
 const CERTIFICATE_ENDS: &str =
     "op Pushout missing\nop Image missing\nop Coimage missing\nop KernelMap rule 50 23\nop CokernelMap missing\nop Intersection rule 52 36\nop Union missing\nop IsSubobject rule 54 21\nop Homology missing\nop IsExact missing\n";
+
+// The nine registrations of that certificate.
+const REGISTRATIONS: &str =
+    "category V vec 5\nregister V Identity\nregister V Compose\nregister V Zero\nregister V Add\nregister V Scale\nregister V IsCongruent\nregister V DirectSum\nregister V Kernel\nregister V Lift\nfinalise V\n";
+
+// What a word of the program answers to an input: this status and this text.
+fn word_answers(
+    rt: &impl Abort,
+    alloc: Global,
+    word: &str,
+    input: &str,
+    status: Status,
+    output: &str,
+) -> Result<(), Fail> {
+    let mut source = SureSource::new(input.as_bytes().to_vec(alloc)?);
+    let mut sink = SureSink::new(alloc)?;
+    let words = vec![in alloc; String::from_str(alloc, word)?]?;
+    let outcome = cap(alloc, &words, &mut source, &mut sink, &OpenGate);
+    assert_eq!(rt; outcome.status, status, "at {input}");
+    assert!(rt; sink.bytes() == output.as_bytes(), "at {input}");
+    Ok(())
+}
+
+#[test]
+fn plans_are_printed_as_certificates_that_are_accepted(rt: HostRuntime) -> Result<(), Fail> {
+    let alloc = rt.alloc();
+    let whole = format!(in alloc;
+        "{CERTIFICATE_BEGINS}op Pullback rule 21 34\n{CERTIFICATE_ENDS}end\n"
+    )?;
+    let more = "object V a = 2\nregister V Pullback 10\nsession s\nlet k = V Identity a\nend\n";
+    let script = format!(in alloc; "{REGISTRATIONS}{more}")?;
+    let certificate = whole.as_str();
+    word_answers(&rt, alloc, "plan", REGISTRATIONS, Status::Ok, certificate)?;
+    word_answers(&rt, alloc, "plan", script.as_str(), Status::Ok, certificate)?;
+    word_answers(&rt, alloc, "check", certificate, Status::Ok, "accepted\n")
+}
+
+#[test]
+fn plans_of_other_texts_are_refused(rt: HostRuntime) -> Result<(), Fail> {
+    for (input, line) in [
+        ("category V vec 9\n", "bad script: line 1 column 16 prime\n"),
+        (
+            "category V vec 5\nregister V Kernel 0\n",
+            "bad script: line 2 column 19 limit\n",
+        ),
+        (
+            "category V vec 5\n\ntable T prime 5\nobjects A\nbasis e A A\nunit A = 1 e\nend\n",
+            "bad script: line 3 column 1 limit\n",
+        ),
+        (
+            "category V vec 5\nplan",
+            "bad script: line 2 column 5 syntax\n",
+        ),
+    ] {
+        word_answers(&rt, rt.alloc(), "plan", input, Status::BadScript, line)?;
+    }
+    word_answers(&rt, rt.alloc(), "plan", "", Status::Ok, "")
+}
 
 #[test]
 fn certificates_are_accepted_rejected_or_refused(rt: HostRuntime) -> Result<(), Fail> {

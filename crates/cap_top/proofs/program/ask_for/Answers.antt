@@ -1,5 +1,5 @@
 use Rattle.std.proofs.Common.{◌≡◌, ℕ, List, [], ◌∷◌, map, length, get_or, sym, ap, ◌∙◌, arith, true}
-use Rattle.std.specs.Prelude.{string_bytes, codes}
+use Rattle.std.specs.Prelude.{string_bytes}
 use Rattle.std.specs.Str.{bytes_eq}
 use Rattle.std.proofs.lemmas.Slice.Eq.{bytes_eq-Decides}
 use Rattle.cap_top.proofs.program.ask_for.Goals as goal

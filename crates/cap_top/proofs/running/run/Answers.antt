@@ -1,5 +1,4 @@
 use Rattle.std.proofs.Common.{refl, sym, subst}
-use Rattle.std.specs.Prelude.{string_bytes}
 use Rattle.cap_top.specs.Run.{Outside}
 use Rattle.cap_top.proofs.Runs.{judged_run, said_run, same_run}
 use Rattle.cap_top.proofs.running.run.Goals as goal
@@ -14,8 +13,8 @@ returns-after-judge g c =
     elim c.match-judge.branch [
       | in-Ok-judge w ↦
           let what = w.in-Ok-judge.said in
-          let judged = subst (λ bytes. g.J.Judge.says bytes what (string_bytes w.in-Ok-judge.text)) c.deref.ensures.value w.in-Ok-judge.ensures in
-          let judged_text = subst (g.J.Judge.says c.in-Ok.bytes.items what) (sym w.as_bytes.ensures.value) judged in
+          let judged = subst (λ bytes. g.J.Judge.says bytes what w.in-Ok-judge.text.items) c.deref.ensures.value w.in-Ok-judge.ensures in
+          let judged_text = subst (g.J.Judge.says c.in-Ok.bytes.items what) (sym w.deref-in-Ok-judge.ensures.value) judged in
           same_run g.J.Judge.says g.K.Sink.written g.K.Sink.faults before left faults w.sink-is w.status-is
           (judged_run g.J.Judge.says _ _ what c.in-Ok.bytes.items _ _ _ judged_text all w.status_of.ensures w.say.ensures)
       | in-Err w ↦ same_run g.J.Judge.says g.K.Sink.written g.K.Sink.faults before left faults w.sink-is w.status-is (record { taken = record { bytes = c.in-Ok.bytes.items; taken = all.taken; are = tt }; quiet = (refl, refl) })

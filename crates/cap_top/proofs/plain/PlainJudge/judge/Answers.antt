@@ -1,3 +1,4 @@
+use Rattle.std.proofs.Common.{ap, ◌∙◌}
 use Rattle.cap_top.proofs.Judged.{answer_by_basis, basis_keeps_limits}
 use Rattle.cap_top.proofs.plain.PlainJudge.judge.Goals as goal
 
@@ -5,7 +6,7 @@ pub returns-in-Ok : goal.returns-in-Ok
 returns-in-Ok c =
     let form = rw c.in-Some.is at c.in_ok-read_form.ensures in
     let basis = c.in-Ok.ensures in
-    answer_by_basis _ _ c.in-Some.f c.in-Ok.k form.0 form.1 basis c.in_ok-output_text-in-Ok.ensures
+    answer_by_basis _ _ c.in-Some.f c.in-Ok.k form.0 form.1 basis (ap (λ v. v.items) c.into_bytes.ensures.value ∙ c.in_ok-output_text-in-Ok.ensures)
 
 pub unreachable-requires : goal.unreachable-requires
 unreachable-requires c =
