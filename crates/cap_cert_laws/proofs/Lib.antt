@@ -1,0 +1,5 @@
+pub mod Numbers
+pub mod LinesWritten
+pub mod SpelledAgain
+pub mod ReadAgain
+pub mod Planned
