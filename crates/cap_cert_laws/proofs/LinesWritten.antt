@@ -20,16 +20,16 @@ use Rattle.cap_cert.specs.Texts.{Way, ByPrimitive, ByRule, ByNothing, Spelled, o
 use Rattle.cap_cert.specs.Reading.{IsWay, AreRegs, IsSpelled, line_end, line_tokens, cert_tokens, certs_tokens}
 
 -- a word or a number: one token
-abbrev OneToken : List ℕ → Type 0
+abbrev pub OneToken : List ℕ → Type 0
 OneToken w = IsWord w ⊎ IsNumber w
 
 -- each word of a line is one token
-abbrev OneByOne : List (List ℕ) → Type 0
+abbrev pub OneByOne : List (List ℕ) → Type 0
 OneByOne [] = Unit {0}
 OneByOne (w ∷ ws) = OneToken w × OneByOne ws
 
 -- and so in each line
-abbrev AreLines : List (List (List ℕ)) → Type 0
+abbrev pub AreLines : List (List (List ℕ)) → Type 0
 AreLines [] = Unit {0}
 AreLines (l ∷ ls) = OneByOne l × AreLines ls
 
@@ -111,7 +111,7 @@ ways_are_lines strict place (way ∷ ways) few are = (
   ways_are_lines strict (suc place) ways (omega (arith, few)) (All-tail (IsWay strict) way ways are),
 )
 
-cert_lines : (strict : Bool) (c : Spelled) → IsSpelled strict c → AreLines (lines_of c)
+pub cert_lines : (strict : Bool) (c : Spelled) → IsSpelled strict c → AreLines (lines_of c)
 cert_lines strict c is = (
   (certificate_word, (inr is.version, (inl is.name.word, (kind_word c.kind, tt)))),
   regs_are_lines strict 0 c.regs (op_lines 0 c.ways ++ end_line ∷ []) is.regs (ways_are_lines strict 0 c.ways (omega (arith, is.all_ways)) is.ways),

@@ -4,6 +4,6 @@
 mod laws;
 
 pub use laws::{
-    law_plans_are_accepted, law_plans_are_writable, law_written_certificate_is_read,
-    law_written_certificates_are_read,
+    law_accepted_is_said, law_first_lines_stand, law_plans_are_accepted, law_plans_are_writable,
+    law_written_certificate_is_read, law_written_certificates_are_read, law_written_text_is_short,
 };
