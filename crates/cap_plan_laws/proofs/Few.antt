@@ -34,10 +34,10 @@ below true n e = absurd (cc (e))
 below false n e = grind (arith, nat_tests, e)
 
 -- so many categories up to this part
-abbrev with : List Part → Item ObjTok MorTok → ℕ
-with before n = count_by is_category before + cond (is_category_item n) 1 0
+abbrev up_to : List Part → Item ObjTok MorTok → ℕ
+up_to before n = count_by is_category before + cond (is_category_item n) 1 0
 
-item_few : (n : Item ObjTok MorTok) (l : List Symbol) → part n l → (ps : List Place) → length l ≤ length ps → (full : Bool) (before : List Part) (values : List Value) → faults ps (item_marks full before values n) ≡ [] → count_by is_category before ≤ 16 → with before n ≤ 16
+item_few : (n : Item ObjTok MorTok) (l : List Symbol) → part n l → (ps : List Place) → length l ≤ length ps → (full : Bool) (before : List Part) (values : List Value) → faults ps (item_marks full before values n) ≡ [] → count_by is_category before ≤ 16 → up_to before n ≤ 16
 item_few (top.Block b) l t ps h full before values e few = omega (arith, few)
 item_few (top.Category n o) l t ps h full before values e few =
     let some : 1 ≤ length l = joined_long 1 0 _ _ (item_long _) (λ rest is. omega arith) l t in
@@ -46,7 +46,7 @@ item_few (top.Category n o) l t ps h full before values e few =
     omega (arith, less)
 item_few (top.Command c) l t ps h full before values e few = omega (arith, few)
 
-count_push : (before : List Part) (x : Part) → count_by is_category (before ++ x ∷ []) ≡ with before x.node
+count_push : (before : List Part) (x : Part) → count_by is_category (before ++ x ∷ []) ≡ up_to before x.node
 count_push before x = sum_by_push (λ p. cond (is_category p) 1 0) before x
 
 -- behind the first parts, which are so many
@@ -55,9 +55,9 @@ parts_few all before [] i ms e at t f few = subst (λ l. count_by is_category l 
 parts_few all before (x ∷ xs) i ms e at t f few =
     let front : take i all ≡ before = (λ k. take (at k) (e k)) ∙ take-append_seam before (x ∷ xs) in
     let places = kept part x t.front t.first in
-    let here : with (take i all) x.node ≤ 16 = item_few x.node (symbols t.front) t.first.0 x.places (omega (arith, places)) (nat_le 4096 i) (take i all) (values_behind bound_by_part [] (take i all))
+    let here : up_to (take i all) x.node ≤ 16 = item_few x.node (symbols t.front) t.first.0 x.places (omega (arith, places)) (nat_le 4096 i) (take i all) (values_behind bound_by_part [] (take i all))
     (first_empty (part_faults all i x) (each_from (part_faults all) (suc i) xs) f) (subst (λ l. count_by is_category l ≤ 16) (sym front) few) in
-    let now : with before x.node ≤ 16 = subst (λ l. with l x.node ≤ 16) front here in
+    let now : up_to before x.node ≤ 16 = subst (λ l. up_to l x.node ≤ 16) front here in
     parts_few all (before ++ x ∷ []) xs (suc i) t.rest (e ∙ sym (append_assoc before (x ∷ []) xs))
     (let long = length-append before (x ∷ []) in omega (arith, at, long))
     t.second (rest_empty (part_faults all i x) (each_from (part_faults all) (suc i) xs) f)

@@ -1,6 +1,6 @@
 pub mod Fronts
 pub mod Names
-pub mod Spelt
+pub mod SymbolTexts
 pub mod Few
 pub mod Weights
 pub mod Stand

@@ -18,7 +18,7 @@ use Rattle.cap_check.specs.Forms.{IsOfSound}
 use Rattle.cap_check.proofs.Forms.{forms_ranged}
 use Rattle.cap_registered.specs.Registrations.{Registered, kind_of, registered, category, categories_among, categories}
 use Rattle.cap_plan_laws.specs.Laws.{Stands}
-use Rattle.cap_plan_laws.proofs.Spelt.{IsNamed, script_named}
+use Rattle.cap_plan_laws.proofs.SymbolTexts.{IsNamed, script_named}
 use Rattle.cap_plan_laws.proofs.Few.{script_few}
 use Rattle.cap_plan_laws.proofs.Weights.{weights_long, weights_ranged}
 

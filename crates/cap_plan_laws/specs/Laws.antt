@@ -34,3 +34,7 @@ CertificatesAreAccepted = (form : Checked) (text : List ℕ) → IsOfSound form 
 -- and nothing else can be said of them
 abbrev pub NothingElseIsSaid : Type 0
 NothingElseIsSaid = (form : Checked) (text : List ℕ) (judgement : Judgement) → IsOfSound form → 1 ≤ length (categories form.prelude) → AreCertificates form.prelude text → IsJudgement text judgement → judgement ≡ Accepted
+
+-- they have no more bytes than a command reads
+abbrev pub CertificatesAreShort : Type 0
+CertificatesAreShort = (form : Checked) (text : List ℕ) → IsOfSound form → AreCertificates form.prelude text → length text ≤ 1048576
