@@ -1,13 +1,14 @@
 -- What each command says of the bytes of a whole input, and with which text.
-use Rattle.std.specs.Prelude.{◌≡◌, ◌⊎◌, ℕ, List, [], Some}
+use Rattle.std.specs.Prelude.{◌≡◌, ◌⊎◌, ℕ, ◌≤◌, List, [], length, Some}
 use Rattle.cap_names.specs.declared.reasons.BadScript.{BadScript}
 use Rattle.cap_block_faults.specs.Marks.{first}
 use Rattle.cap_checked.specs.declared.tree.Checked.{Checked}
-use Rattle.cap_check.specs.Unbuilt.{unbuilt}
+use Rattle.cap_check.specs.Unbuilt.{CheckedPart, unbuilt}
+use Rattle.cap_registered.specs.Registrations.{categories}
 use Rattle.cap_registered.specs.Certificates.{AreCertificates}
 use Rattle.cap_judge.specs.declared.judgement.Judgement.{Judgement}
 use Rattle.cap_judge.specs.declared.judgement.Judgement.TheVariants as judged
-use Rattle.cap_judge.specs.Judged.{IsJudgement, judgement_text}
+use Rattle.cap_judge.specs.Judged.{AreAccepted, IsJudgement, judgement_text}
 use Rattle.cap_top.specs.declared.judging.Said.{Said}
 use Rattle.cap_top.specs.declared.judging.Said.TheVariants.{Answered, Rejected, Refused}
 use Rattle.cap_top.specs.Form.{IsForm, IsAnswer}
@@ -36,12 +37,17 @@ IsPlainJudged bytes Answered text = IsAnswer bytes text
 IsPlainJudged bytes Refused text = IsRefusedPlain bytes text
 IsPlainJudged bytes Rejected text = ⊥
 
--- the bytes are a text of a script without faults that can be run, and the text is the certificates of its categories, in order
+-- the text is the certificates of the categories, in order; where there are some, they are accepted by the judge of certificates
+pub record AreCertified (parts : List CheckedPart) (text : List ℕ) : Type 0 where
+  pub certificates : AreCertificates parts text
+  pub accepted : 1 ≤ length (categories parts) → AreAccepted text
+
+-- the bytes are a text of a script without faults that can be run, and the text is the certificates of its categories
 pub record IsPlanned (bytes text : List ℕ) : Type 0 where
   pub form : Checked
   pub sound : IsSoundText bytes form
   pub built : unbuilt form.prelude ≡ []
-  pub certificates : AreCertificates form.prelude text
+  pub certified : AreCertified form.prelude text
 
 -- the first block or category of a script without faults that can't be run yet
 pub record IsUnbuilt (bytes : List ℕ) (bad : BadScript) : Type 0 where

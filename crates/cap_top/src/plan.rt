@@ -1,16 +1,27 @@
 // `cap plan`: a script from standard input, and the certificates of its categories.
-ghost use Rattle.std.specs.Prelude.{◌≡◌, List, ℕ};
-ghost use Rattle.cap_top.specs.Judged.{IsPlanJudged};
+ghost use Rattle.std.specs.Prelude.{◌≡◌, IfOk, List, ℕ};
+ghost use Rattle.cap_top.specs.Judged.{AreCertified, IsPlanJudged};
 ghost use Rattle.cap_top.specs.Run.{Outside, IsPlanRun};
 
 use crate::judging::{Judge, Said};
 use crate::outcome::Outcome;
 use crate::refusals::{read_script, refusal_text};
 use crate::running::run;
-use cap_check::{CheckFault, built};
+use cap_check::{CheckFault, Checked, built};
 use cap_io::{Sink, Source};
+use cap_names::NoMemory;
+use cap_plan_laws::law_certificates_are_accepted;
 use cap_registered::certificates;
 use std::alloc::{AllocError, Global};
+
+/// The certificates of a script's categories, which are accepted.
+fn certified(alloc: Global, script: &Checked) -> Result<Vec<u8>, NoMemory>
+    ensures { IfOk result (λ text. AreCertified script.now.prelude text.items) }
+{
+    let _parts = script.prelude();
+    law_certificates_are_accepted();
+    certificates(alloc, script)
+}
 
 /// The command `plan`.
 struct Plan;
@@ -25,7 +36,7 @@ impl Judge for Plan {
             Err(CheckFault::NoMemory) => return Err(AllocError),
         };
         match built(&script) {
-            Ok(()) => match certificates(alloc, &script) {
+            Ok(()) => match certified(alloc, &script) {
                 Ok(text) => Ok((Said::Answered, text)),
                 Err(_) => Err(AllocError),
             },
