@@ -1,6 +1,1 @@
-mod Joined
-mod Pushed
-mod Scanned
-mod Values
-mod Judged
 mod Runs

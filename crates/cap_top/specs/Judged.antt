@@ -11,7 +11,7 @@ use Rattle.cap_judge.specs.declared.judgement.Judgement.TheVariants as judged
 use Rattle.cap_judge.specs.Judged.{AreAccepted, IsJudgement, judgement_text}
 use Rattle.cap_top.specs.declared.judging.Said.{Said}
 use Rattle.cap_top.specs.declared.judging.Said.TheVariants.{Answered, Rejected, Refused}
-use Rattle.cap_top.specs.Form.{IsForm, IsAnswer}
+use Rattle.cap_form.specs.Form.{IsForm, IsAnswer}
 use Rattle.cap_top.specs.Refusals.{IsSoundText, IsFault, refusal_text, not_yet}
 
 -- what a command says of bytes, with which text

@@ -1,6 +1,3 @@
-pub mod Text
-pub mod Form
-pub mod Numbers
 pub mod Status
 pub mod Refusals
 pub mod Judged

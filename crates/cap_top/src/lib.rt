@@ -2,7 +2,6 @@
 #![tactic(auto)]
 
 mod check;
-mod form;
 mod judging;
 mod outcome;
 mod plain;
@@ -10,7 +9,6 @@ mod plan;
 mod program;
 mod refusals;
 mod running;
-mod text;
 
 pub use check::cap_check;
 pub use judging::{Judge, Said};

@@ -4,17 +4,14 @@ ghost use Rattle.cap_top.specs.Refusals.{IsFault, not_yet};
 ghost use Rattle.cap_top.specs.Judged.{IsPlainJudged, IsNotYet};
 ghost use Rattle.cap_top.specs.Run.{Outside, IsPlainRun};
 
-use crate::form::read_form;
 use crate::judging::{Judge, Said};
 use crate::outcome::Outcome;
 use crate::refusals::{read_script, refusal_text};
 use crate::running::run;
-use crate::text::output_text;
 use cap_check::CheckFault;
+use cap_form::answer;
 use cap_io::{Gate, Sink, Source};
-use cap_matrix::MatrixFault;
 use cap_names::{BadScript, Reason};
-use cap_reduce::null_rows;
 use std::alloc::{AllocError, Global};
 
 /// Why bytes that are not of the first form are refused: the first fault, or a limit at the beginning where there is none.
@@ -40,16 +37,12 @@ impl Judge for Plain {
     ghost says = { IsPlainJudged };
 
     fn judge(&self, alloc: Global, bytes: &[u8]) -> Result<(Said, Vec<u8>), AllocError> {
-        match read_form(alloc, bytes)? {
+        match answer(alloc, bytes)? {
+            Some(text) => Ok((Said::Answered, text.into_bytes())),
             None => {
                 let bad = why(alloc, bytes)?;
                 Ok((Said::Refused, refusal_text(alloc, bad)?))
             }
-            Some(f) => match null_rows(alloc, &f) {
-                Ok(k) => Ok((Said::Answered, output_text(alloc, &f, &k)?.into_bytes())),
-                Err(MatrixFault::NoMemory) => Err(AllocError),
-                Err(MatrixFault::TooLarge(_)) => unreachable!(),
-            },
         }
     }
 }

@@ -1,0 +1,5 @@
+mod Joined
+mod Pushed
+mod Scanned
+mod Values
+mod Judged
