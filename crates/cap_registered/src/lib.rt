@@ -4,6 +4,8 @@
 mod certifying;
 mod commands;
 mod registering;
+#[cfg(test)]
+mod tests;
 
 pub use certifying::certificates;
 pub use commands::kind_of;
