@@ -1,5 +1,7 @@
 pub mod Asks
 pub mod Examples
 pub mod Offers
+pub mod PartByPart
+pub mod Ranged
 pub mod RuleCosts
 pub mod Texts
