@@ -14,7 +14,7 @@ use Rattle.cap_check.specs.Unbuilt.{CheckedPart}
 use Rattle.cap_registered.specs.Registrations.{first_for, weight_among, registration, before_final, registered_weight, registered_weights}
 use Rattle.cap_registered.specs.Kept.{kept}
 
-one_of : {Y : Type 0} (o : Option Y) → cons_option o [] ≡ option_to_list o
+pub one_of : {Y : Type 0} (o : Option Y) → cons_option o [] ≡ option_to_list o
 one_of None = refl
 one_of (Some y) = refl
 

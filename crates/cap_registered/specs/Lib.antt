@@ -1,3 +1,4 @@
 pub mod Certificates
 pub mod Kept
+pub mod Laws
 pub mod Registrations

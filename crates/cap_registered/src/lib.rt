@@ -3,8 +3,12 @@
 
 mod certifying;
 mod commands;
+mod laws;
 mod registering;
+#[cfg(test)]
+mod tests;
 
 pub use certifying::certificates;
 pub use commands::kind_of;
+pub use laws::law_registers_are_accepted_once;
 pub use registering::registered;
