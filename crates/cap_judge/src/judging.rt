@@ -1,7 +1,6 @@
 // The judgement of a text of certificates.
 ghost use Rattle.std.specs.Prelude.{◌≡◌, ◌<◌, ◌-◌, ◌^◌, IfOk, length};
-ghost use Rattle.std.specs.List.{All};
-ghost use Rattle.cap_ops.specs.Derivations.{IsCost};
+ghost use Rattle.cap_ops.specs.Derivations.{AreCosts};
 ghost use Rattle.cap_judge.specs.Judged.{IsJudgement, the_costs};
 
 use super::judgement::Judgement;
@@ -11,9 +10,9 @@ use cap_ops::RuleCost;
 use std::alloc::Global;
 
 /// The costs of the 59 rules.
-fn rule_costs() -> [RuleCost; 59]
+pub fn rule_costs() -> [RuleCost; 59]
     ensures value { result ≡ the_costs }
-    ensures costs { All IsCost result }
+    ensures costs { AreCosts result }
 {
     cap_rules::costs()
 }

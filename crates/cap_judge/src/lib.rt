@@ -6,5 +6,5 @@ mod judging;
 mod text;
 
 pub use judgement::Judgement;
-pub use judging::judge;
+pub use judging::{judge, rule_costs};
 pub use text::judgement_text;

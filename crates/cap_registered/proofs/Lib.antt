@@ -2,5 +2,4 @@ pub mod Asks
 pub mod Examples
 pub mod Offers
 pub mod PartByPart
-pub mod RuleCosts
 pub mod Texts

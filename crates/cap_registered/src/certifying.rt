@@ -1,7 +1,5 @@
 // The certificates of a prelude.
 ghost use Rattle.std.specs.Prelude.{◌≡◌, IfOk};
-ghost use Rattle.cap_ops.specs.Derivations.{AreCosts};
-ghost use Rattle.cap_judge.specs.Judged.{the_costs};
 ghost use Rattle.cap_sound.specs.Weights.{AreRanged};
 ghost use Rattle.cap_registered.specs.Registrations.{registered};
 ghost use Rattle.cap_registered.specs.Certificates.{IsCertificate, AreCertificates};
@@ -11,18 +9,11 @@ use crate::registering::registered;
 use cap_cert::write_cert;
 use cap_check::{Checked, CheckedObj};
 use cap_grammar::{Item, Placed};
+use cap_judge::rule_costs;
 use cap_names::{MorLit, Name, NoMemory};
-use cap_ops::{Kind, RuleCost};
+use cap_ops::Kind;
 use cap_plan::plan;
 use std::alloc::Global;
-
-/// The costs of the 59 rules.
-fn rule_costs() -> [RuleCost; 59]
-    ensures value { result ≡ the_costs }
-    ensures costs { AreCosts result }
-{
-    cap_rules::costs()
-}
 
 /// The certificate of the category of this name and kind.
 fn certificate(

@@ -1,6 +1,5 @@
 use Rattle.std.proofs.Common.{sym, subst}
-use Rattle.std.specs.List.{All}
-use Rattle.cap_ops.specs.Derivations.{IsCost}
+use Rattle.cap_ops.specs.Derivations.{AreCosts}
 use Rattle.cap_judge.specs.Judged.{the_costs}
 use Rattle.cap_judge.proofs.RuleCosts.{costs_are}
 use Rattle.cap_judge.proofs.judging.rule_costs.Goals as goal
@@ -11,4 +10,4 @@ returns-clause-value c = c.costs.ensures
 
 pub returns-clause-costs : goal.returns-clause-costs
 unfolding the_costs
-returns-clause-costs c = subst (All IsCost) (sym c.costs.ensures) costs_are
+returns-clause-costs c = subst AreCosts (sym c.costs.ensures) costs_are
