@@ -1,4 +1,5 @@
 -- The weights of a script without faults.
+use Rattle.cap_sound.specs.Laws.{WeightsAreRanged}
 use Rattle.std.proofs.Common.{ap, ◌≡◌, ℕ, suc, ◌≤◌, List, [], ◌∷◌, ◌++◌, length, take, arith, Option, Some, None, Bool, false}
 use Rattle.std.specs.Prelude.{not, nat_le, ◌&&◌}
 use Rattle.cap_names.specs.declared.reasons.Reason.TheVariants.{Limit}
@@ -26,7 +27,6 @@ use Rattle.cap_checked.specs.Checked as checked
 use Rattle.cap_sound.specs.Weights.{written, written_weight, AreRanged}
 use Rattle.cap_ops.specs.Derivations.{IsWeight}
 use Rattle.std.proofs.lemmas.List.Elements.{All-nil, All-cons}
-use Rattle.cap_sound.specs.Laws.{WeightsAreRanged}
 use Rattle.cap_sound.proofs.Lengths.{item_long, joined_long, number_long, kept}
 use Rattle.cap_sound.proofs.Faults.{first_empty, rest_empty, all_free, untold}
 

@@ -1,3 +1,4 @@
 pub mod Given
 pub mod Weights
+pub mod Marked
 pub mod Laws
