@@ -6,3 +6,9 @@ pub mod Literals
 pub mod Blocks
 pub mod Commands
 pub mod Told
+pub mod Symbols
+pub mod Integers
+pub mod Sizes
+pub mod Dimensions
+pub mod Clamps
+pub mod Sound

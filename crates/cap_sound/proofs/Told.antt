@@ -46,7 +46,7 @@ sessions_have_places s text t earlier i =
     omega (arith, a, b, c, d, e)
 
 -- the reasons of faults
-abbrev reasons : List BadScript → List Reason
+abbrev pub reasons : List BadScript → List Reason
 reasons found = map (λ fault. fault.reason) found
 
 faults_told : (ps : List Place) (ms : List Mark) → length ms ≤ length ps → reasons (faults ps ms) ≡ told_reasons ms

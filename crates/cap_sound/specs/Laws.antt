@@ -12,6 +12,8 @@ use Rattle.cap_checked.specs.Checked.{checked_of}
 use Rattle.cap_sound.specs.Given.{IsGiven}
 use Rattle.cap_sound.specs.Weights.{AreRanged}
 use Rattle.cap_sound.specs.Marked.{script_marks, told_reasons}
+use Rattle.cap_sound.specs.Plain.{plainly_checked}
+use Rattle.cap_sound.specs.Dimensions.{script_dimensions}
 
 -- each mark of a part of a prelude has a place, whatever stands before the part
 abbrev pub PartsHavePlaces : Type 0
@@ -36,3 +38,11 @@ SoundWhereFree = (s : Script) → IsGiven s → IsSound s ↔ All (λ m. m ≡ N
 -- the weights before the sessions are in their range, and so are those of the checked form
 abbrev pub WeightsAreRanged : Type 0
 WeightsAreRanged = (s : Script) → IsGiven s → IsSound s → AreRanged s.prelude × AreRanged (checked_of s).prelude
+
+-- no number of the checked form is held to its type: it is the form of numbers of any size
+abbrev pub NoNumberIsClamped : Type 0
+NoNumberIsClamped = (s : Script) → IsGiven s → IsSound s → checked_of s ≡ plainly_checked s
+
+-- each dimension that is written is at most 2,048
+abbrev pub DimensionsAreRanged : Type 0
+DimensionsAreRanged = (s : Script) → IsGiven s → IsSound s → All (λ n. n ≤ 2048) (script_dimensions s)

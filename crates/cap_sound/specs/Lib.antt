@@ -1,4 +1,6 @@
 pub mod Given
 pub mod Weights
 pub mod Marked
+pub mod Plain
+pub mod Dimensions
 pub mod Laws

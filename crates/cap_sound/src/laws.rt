@@ -1,5 +1,5 @@
 // The laws of scripts that stand in some text, each a call that does nothing.
-ghost use Rattle.cap_sound.specs.Laws.{PartsHavePlaces, CommandsHavePlaces, SessionsHavePlaces, EveryMarkIsTold, SoundWhereFree, WeightsAreRanged};
+ghost use Rattle.cap_sound.specs.Laws.{PartsHavePlaces, CommandsHavePlaces, SessionsHavePlaces, EveryMarkIsTold, SoundWhereFree, WeightsAreRanged, NoNumberIsClamped, DimensionsAreRanged};
 
 /// Each mark that is told of a part, a command or a session has a place of its own.
 pub fn law_places()
@@ -21,4 +21,14 @@ pub fn law_sound_where_free()
 /// Before the sessions of such a script without faults, each weight is 1 to 1,000,000.
 pub fn law_weights()
     ensures { WeightsAreRanged }
+{}
+
+/// In the checked form of such a script no number is held to its type.
+pub fn law_no_number_is_clamped()
+    ensures { NoNumberIsClamped }
+{}
+
+/// Each dimension that such a script writes is at most 2,048.
+pub fn law_dimensions()
+    ensures { DimensionsAreRanged }
 {}
