@@ -1,7 +1,8 @@
 -- The dimensions of a script without faults are at most 2,048.
 use Rattle.std.proofs.Common.{◌≡◌, refl, ℕ, suc, ◌≤◌, List, [], ◌∷◌, ◌++◌, length, Option, Some, None, Bool, true, false, cond}
 use Rattle.std.specs.Prelude.{find, not, nat_lt, ◌||◌}
-use Rattle.std.specs.List.{list_any}
+use Rattle.std.specs.List.{All, list_any}
+use Rattle.std.proofs.lemmas.List.Elements.{All-nil, All-cons}
 use Rattle.cap_names.specs.declared.reasons.Reason.TheVariants.{Known, Sort, Limit}
 use Rattle.cap_grammar.specs.declared.tree.ObjTok.{ObjTok}
 use Rattle.cap_grammar.specs.declared.tree.ObjTok.TheVariants.{Dim, Parts, Relation, Dims}
@@ -32,14 +33,18 @@ pub dims_append : (a b : List ℕ) → AreDims a → AreDims b → AreDims (a ++
 dims_append [] b h k = k
 dims_append (n ∷ a) b h k = (h.0, dims_append a b h.1 k)
 
+pub dims_all : (ns : List ℕ) → AreDims ns → All (λ n. n ≤ 2048) ns
+dims_all [] h = All-nil (λ n. n ≤ 2048)
+dims_all (n ∷ ns) h = All-cons (λ n. n ≤ 2048) n ns h.0 (dims_all ns h.1)
+
 -- another kind's form has a fault
-no_other : {A : Type 0} (lit : ObjTok) → AllFree (other_form lit) → A
+pub no_other : {A : Type 0} (lit : ObjTok) → AllFree (other_form lit) → A
 no_other (Dim n) f = absurd (let e : Some Sort ≡ None = (neither (told (nat_lt 2048 n) Limit) (told true Sort) f.0).1 in cc)
 no_other (Parts names) f = absurd (let e : Some Sort ≡ None = f.0 in cc)
 no_other (Relation src tgt rho) f = absurd (let e : Some Sort ≡ None = f.0 in cc)
 no_other (Dims dims maps) f = absurd (let e : Some Sort ≡ None = f.0 in cc)
 
-dims_ranged : (objects i : ℕ) (dims : List ℕ) → AllFree (each_from (dim_item objects) i dims) → AreDims dims
+pub dims_ranged : (objects i : ℕ) (dims : List ℕ) → AllFree (each_from (dim_item objects) i dims) → AreDims dims
 dims_ranged objects i [] f = tt
 dims_ranged objects i (n ∷ dims) f = (at_most 2048 n Limit (neither _ _ f.0).0, dims_ranged objects (suc i) dims f.1)
 
@@ -92,7 +97,7 @@ literal_ranged : (parts : List Part) (o : Option Over) (lit : ObjTok) → (o ≡
 literal_ranged parts None lit known f = absurd (known refl)
 literal_ranged parts (Some over) lit known f = object_ranged parts over lit f
 
-known : (b : Bool) → not b ≡ false → b ≡ true
+pub known : (b : Bool) → not b ≡ false → b ≡ true
 known true e = refl
 known false e = absurd (cc)
 

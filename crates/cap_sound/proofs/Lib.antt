@@ -12,3 +12,5 @@ pub mod Sizes
 pub mod Dimensions
 pub mod Clamps
 pub mod Sound
+pub mod Forms
+pub mod Fit

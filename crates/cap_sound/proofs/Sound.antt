@@ -34,7 +34,7 @@ use Rattle.cap_sound.specs.Laws.{NoNumberIsClamped, DimensionsAreRanged}
 use Rattle.cap_sound.proofs.Faults.{AllFree, free_front, free_rest}
 use Rattle.cap_sound.proofs.Symbols.{AllShort, marks_front, marks_rest, lined}
 use Rattle.cap_sound.proofs.Sizes.{IsSmall, block_small, AreSmall, small_more}
-use Rattle.cap_sound.proofs.Dimensions.{AreDims, dims_append, command_sized, item_sized}
+use Rattle.cap_sound.proofs.Dimensions.{AreDims, dims_all, dims_append, command_sized, item_sized}
 use Rattle.cap_sound.proofs.Clamps.{command_plain, node_plain}
 use Rattle.cap_sound.proofs.Told.{every_mark_is_told, reasons}
 
@@ -112,9 +112,8 @@ none_told [] e = tt
 none_told (None ∷ ms) e = (refl, none_told ms e)
 none_told (Some r ∷ ms) e = absurd (let n = ap length e in omega (arith, n))
 
-dims_all : (ns : List ℕ) → AreDims ns → All (λ n. n ≤ 2048) ns
-dims_all [] h = All-nil (λ n. n ≤ 2048)
-dims_all (n ∷ ns) h = All-cons (λ n. n ≤ 2048) n ns h.0 (dims_all ns h.1)
+pub marks_free : (s : Script) → IsGiven s → IsSound s → AllFree (script_marks s)
+marks_free s given sound = none_told (script_marks s) (sym (every_mark_is_told s given) ∙ ap reasons sound)
 
 pub record Clear (s : Script) : Type 0 where
   pub parts : Parts [] s.prelude
@@ -124,7 +123,7 @@ clear : (s : Script) → IsGiven s → IsSound s → Clear s
 clear s given sound =
     let text = lined s given in
     let outer = values_behind bound_by_part [] s.prelude in
-    let free = none_told (script_marks s) (sym (every_mark_is_told s given) ∙ ap reasons sound) in
+    let free = marks_free s given sound in
     let j = text.is in
     let p = parts_clear s.prelude 0 [] s.prelude j.front j.first (marks_front text.text j.front j.rest j.split text.short) (free_front (each_from (marks_of_part s.prelude) 0 s.prelude) (each_from (marks_of_session s.prelude outer s.sessions) 0 s.sessions) free) tt in
     record {

@@ -14,6 +14,7 @@ use Rattle.cap_sound.specs.Weights.{AreRanged}
 use Rattle.cap_sound.specs.Marked.{script_marks, told_reasons}
 use Rattle.cap_sound.specs.Plain.{plainly_checked}
 use Rattle.cap_sound.specs.Dimensions.{script_dimensions}
+use Rattle.cap_sound.specs.Forms.{LiteralsFit}
 
 -- each mark of a part of a prelude has a place, whatever stands before the part
 abbrev pub PartsHavePlaces : Type 0
@@ -46,3 +47,7 @@ NoNumberIsClamped = (s : Script) → IsGiven s → IsSound s → checked_of s �
 -- each dimension that is written is at most 2,048
 abbrev pub DimensionsAreRanged : Type 0
 DimensionsAreRanged = (s : Script) → IsGiven s → IsSound s → All (λ n. n ≤ 2048) (script_dimensions s)
+
+-- each literal has the form that its category asks for, and each name that it looks up is there
+abbrev pub LiteralsHaveForms : Type 0
+LiteralsHaveForms = (s : Script) → IsGiven s → IsSound s → LiteralsFit s

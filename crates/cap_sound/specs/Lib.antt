@@ -3,4 +3,5 @@ pub mod Weights
 pub mod Marked
 pub mod Plain
 pub mod Dimensions
+pub mod Forms
 pub mod Laws

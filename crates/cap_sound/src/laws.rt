@@ -1,5 +1,5 @@
 // The laws of scripts that stand in some text, each a call that does nothing.
-ghost use Rattle.cap_sound.specs.Laws.{PartsHavePlaces, CommandsHavePlaces, SessionsHavePlaces, EveryMarkIsTold, SoundWhereFree, WeightsAreRanged, NoNumberIsClamped, DimensionsAreRanged};
+ghost use Rattle.cap_sound.specs.Laws.{PartsHavePlaces, CommandsHavePlaces, SessionsHavePlaces, EveryMarkIsTold, SoundWhereFree, WeightsAreRanged, NoNumberIsClamped, DimensionsAreRanged, LiteralsHaveForms};
 
 /// Each mark that is told of a part, a command or a session has a place of its own.
 pub fn law_places()
@@ -31,4 +31,9 @@ pub fn law_no_number_is_clamped()
 /// Each dimension that such a script writes is at most 2,048.
 pub fn law_dimensions()
     ensures { DimensionsAreRanged }
+{}
+
+/// Each literal of such a script has the form of its category, and each name that it looks up is there.
+pub fn law_literals()
+    ensures { LiteralsHaveForms }
 {}
