@@ -1,8 +1,7 @@
 -- A script of some text without faults: no number is clamped, and its dimensions are at most 2,048.
-use Rattle.std.proofs.Common.{◌≡◌, refl, ℕ, suc, ◌-◌, ◌≤◌, List, [], ◌∷◌, ◌++◌, length, map, take, ap, sym, ◌∙◌, subst, arith, append_assoc, append-nil, Some, None, Bool}
+use Rattle.std.proofs.Common.{◌≡◌, refl, ℕ, suc, ◌-◌, List, [], ◌∷◌, ◌++◌, length, map, take, ap, sym, ◌∙◌, subst, arith, append_assoc, append-nil, Some, None, Bool}
 use Rattle.std.specs.Prelude.{nat_le}
-use Rattle.std.specs.List.{All, flat_map}
-use Rattle.std.proofs.lemmas.List.Elements.{All-nil, All-cons}
+use Rattle.std.specs.List.{flat_map}
 use Rattle.cap_names.specs.declared.literals.MorLit.{MorLit}
 use Rattle.cap_reading.specs.Languages.{each}
 use Rattle.cap_grammar.specs.declared.tree.ObjTok.{ObjTok}

@@ -1,6 +1,7 @@
 -- Literals that have the form that their category asks for (this project's own script language).
-use Rattle.std.specs.Prelude.{◌≡◌, ℕ, ◌≤◌, ◌<◌, List, [], ◌∷◌, ◌++◌, length, Bool, true, false, not, Option, Some}
+use Rattle.std.specs.Prelude.{◌≡◌, ℕ, ◌≤◌, ◌<◌, ◌^◌, List, ◌∷◌, ◌++◌, length, Bool, true, false, not, Some}
 use Rattle.std.specs.List.{All}
+use Rattle.cap_grammar.specs.declared.tree.IntTok.{IntTok}
 use Rattle.cap_grammar.specs.declared.tree.EntryTok.{EntryTok}
 use Rattle.cap_grammar.specs.declared.tree.EntryTok.TheVariants as cell
 use Rattle.cap_grammar.specs.declared.tree.RowsTok.{RowsTok}
@@ -23,12 +24,16 @@ use Rattle.cap_sound.specs.Plain.{number}
 abbrev pub IsThere : List (List ℕ) → List ℕ → Type 0
 IsThere names name = number names name < length names
 
--- each entry is an integer, or each has coefficients
+-- an integer of at most 16 digits
+abbrev pub IsShort : IntTok → Type 0
+IsShort i = i.digits < 10 ^ 16
+
+-- an entry is such an integer, or has such coefficients
 abbrev pub IsEntry : Bool → EntryTok → Type 0
-IsEntry false (cell.Int i) = Unit {0}
+IsEntry false (cell.Int i) = IsShort i
 IsEntry false (cell.Coeffs is) = ⊥
 IsEntry true (cell.Int i) = ⊥
-IsEntry true (cell.Coeffs is) = Unit {0}
+IsEntry true (cell.Coeffs is) = All IsShort is
 
 abbrev pub HasEntries : Bool → RowsTok → Type 0
 HasEntries coeffs m = All (λ row. All (IsEntry coeffs) row) m.rows
