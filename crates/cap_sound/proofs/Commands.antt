@@ -1,8 +1,8 @@
 -- The marks of commands and of the parts of the prelude fit their texts.
 use Rattle.std.proofs.Common.{ℕ, List, [], ◌∷◌, length, Option, Some, None, Bool}
 use Rattle.std.specs.Prelude.{slice_get}
-use Rattle.cap_reading.specs.Languages.{◌·◌, each, maybe}
 use Rattle.cap_names.specs.declared.identifiers.OpId.{OpId}
+use Rattle.cap_reading.specs.Languages.{◌·◌, each, maybe}
 use Rattle.cap_grammar.specs.declared.symbol.Fixed.TheVariants as word
 use Rattle.cap_grammar.specs.declared.tree.RefTok.{RefTok}
 use Rattle.cap_grammar.specs.declared.tree.ArgTok.{ArgTok}
@@ -16,11 +16,11 @@ use Rattle.cap_grammar.specs.declared.tree.Command.TheVariants.{Register, Finali
 use Rattle.cap_grammar.specs.declared.tree.Item.{Item}
 use Rattle.cap_grammar.specs.declared.tree.Item.TheVariants as top
 use Rattle.cap_grammar.specs.Grammar.{fixed, name, number, ref, arg, object, morphism, over, command, part}
+use Rattle.cap_ops.specs.declared.sorts.Sort.{Sort}
+use Rattle.cap_ops.specs.Ends.{operation_arguments}
 use Rattle.cap_block_faults.specs.Marks.{Mark, free, told}
 use Rattle.cap_block_faults.specs.Marks as marks
 use Rattle.cap_block_faults.specs.Names.{Part, over_of}
-use Rattle.cap_ops.specs.declared.sorts.Sort.{Sort}
-use Rattle.cap_ops.specs.Ends.{operation_arguments}
 use Rattle.cap_faults.specs.declared.values.Value.{Value}
 use Rattle.cap_faults.specs.Commands.{value_of, part_marks, ref_marks, object_ref, any_ref, ref_mark, arg_marks, arg_item, args_marks, object_literal, morphism_literal, weight_marks, Scope, scope, given_morphism, command_marks}
 use Rattle.cap_faults.specs.Scripts.{over_mark, item_marks}

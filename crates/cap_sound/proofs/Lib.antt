@@ -14,3 +14,4 @@ pub mod Clamps
 pub mod Sound
 pub mod Forms
 pub mod Fit
+pub mod Examples

@@ -26,7 +26,7 @@ objects_few names i (x ∷ xs) f h =
     let more = objects_few names (suc i) xs f.1 (omega (arith, lt)) in
     omega (arith, more)
 
-head_few : (a b c d : Mark) (bound : Option ℕ) (names : List (List ℕ)) → AllFree (a ∷ b ∷ c ∷ d ∷ ((bound_marks bound ++ (free ∷ free ∷ objects_marks names)) ++ free ∷ [])) → length names ≤ 16
+pub head_few : (a b c d : Mark) (bound : Option ℕ) (names : List (List ℕ)) → AllFree (a ∷ b ∷ c ∷ d ∷ ((bound_marks bound ++ (free ∷ free ∷ objects_marks names)) ++ free ∷ [])) → length names ≤ 16
 head_few a b c d bound names f =
     let marks = free_rest (bound_marks bound) (free ∷ free ∷ objects_marks names) (free_front (bound_marks bound ++ (free ∷ free ∷ objects_marks names)) (free ∷ []) f.1.1.1.1) in
     let few = objects_few names 0 names marks.1.1 (omega arith) in
@@ -39,7 +39,7 @@ count_cons p x xs = sum_by-cons (λ y. cond (p y) 1 0) x xs
 count_append : (p : BlockLine → Bool) (xs ys : List BlockLine) → count_by p (xs ++ ys) ≡ count_by p xs + count_by p ys
 count_append p xs ys = sum_by-append (λ y. cond (p y) 1 0) xs ys
 
-abbrev AreFew : List BlockLine → Type 0
+abbrev pub AreFew : List BlockLine → Type 0
 AreFew ls = (count_by is_basis ls ≤ 128) × (count_by is_arrow ls ≤ 64)
 
 more_few : (before : List BlockLine) (l : BlockLine) → count_by is_basis before + count_by is_basis (l ∷ []) ≤ 128 → count_by is_arrow before + count_by is_arrow (l ∷ []) ≤ 64 → AreFew (before ++ l ∷ [])
@@ -55,7 +55,7 @@ line_few xs before (line.Product left right c) f few = more_few before (line.Pro
 line_few xs before (line.Arrow a src tgt) f few = let lt = below 64 (count_by is_arrow before) Limit f.0 in more_few before (line.Arrow a src tgt) (omega (arith, few.0)) (omega (arith, lt))
 line_few xs before (line.Relation s) f few = more_few before (line.Relation s) (omega (arith, few.0)) (omega (arith, few.1))
 
-lines_few : (b : Block) (i : ℕ) (before xs : List BlockLine) → i ≡ length before → b.lines ≡ before ++ xs → AllFree (each_from (line_item b) i xs) → AreFew before → AreFew b.lines
+pub lines_few : (b : Block) (i : ℕ) (before xs : List BlockLine) → i ≡ length before → b.lines ≡ before ++ xs → AllFree (each_from (line_item b) i xs) → AreFew before → AreFew b.lines
 lines_few b i before [] n e f few = subst AreFew (sym (e ∙ append-nil before)) few
 lines_few b i before (x ∷ xs) n e f few =
     let all : take i b.lines ≡ before = ap (λ k. take k b.lines) n ∙ ap (take (length before)) e ∙ take-append_seam before (x ∷ xs) in
@@ -76,13 +76,18 @@ pub record IsSmall (n : Item ObjTok MorTok) : Type 0 where
   pub objects : length (objects_in n) ≤ 16
   pub names : length (basis (lines_in n)) ≤ 192
 
+pub lines_of_block : (full : Bool) (parts : List Part) (b : Block) → AllFree (block_marks full parts b) → AreFew b.lines
+lines_of_block full parts b f =
+    lines_few b 0 [] b.lines refl refl (free_rest (head_marks full parts b) (lines_marks b) (free_front (head_marks full parts b ++ lines_marks b) (end_marks b) f)) (omega arith, omega arith)
+
+pub head_of_block : (full : Bool) (parts : List Part) (b : Block) → AllFree (block_marks full parts b) → AllFree (head_marks full parts b)
+head_of_block full parts b f = free_front (head_marks full parts b) (lines_marks b) (free_front (head_marks full parts b ++ lines_marks b) (end_marks b) f)
+
 pub block_small : (full : Bool) (parts : List Part) (b : Block) → AllFree (block_marks full parts b) → IsSmall (top.Block b)
 block_small full parts b f =
-    let front = free_front (head_marks full parts b ++ lines_marks b) (end_marks b) f in
-    let few = lines_few b 0 [] b.lines refl refl (free_rest (head_marks full parts b) (lines_marks b) front) (omega arith, omega arith) in
+    let few = lines_of_block full parts b f in
     let own = own_names b.lines in
-    let heads = free_front (head_marks full parts b) (lines_marks b) front in
-    record { objects = head_few _ _ _ _ b.bound b.objects heads; names = omega (arith, few.0, few.1, own) }
+    record { objects = head_few _ _ _ _ b.bound b.objects (head_of_block full parts b f); names = omega (arith, few.0, few.1, own) }
 
 -- parts, and the block of a name among them
 abbrev pub AreSmall : List Part → Type 0

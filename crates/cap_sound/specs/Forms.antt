@@ -1,5 +1,5 @@
--- Literals that have the form that their category asks for (this project's own script language).
-use Rattle.std.specs.Prelude.{◌≡◌, ℕ, ◌≤◌, ◌<◌, ◌^◌, List, ◌∷◌, ◌++◌, length, Bool, true, false, not, Some}
+-- What stands in a script whose names are all bound: blocks within their limits, categories over what is there, and literals of the form that their category asks for (this project's own script language).
+use Rattle.std.specs.Prelude.{Option, None, count_by, ◌≡◌, ℕ, ◌≤◌, ◌<◌, ◌^◌, List, ◌∷◌, ◌++◌, length, Bool, true, false, not, Some}
 use Rattle.std.specs.List.{All}
 use Rattle.cap_grammar.specs.declared.tree.IntTok.{IntTok}
 use Rattle.cap_grammar.specs.declared.tree.EntryTok.{EntryTok}
@@ -9,6 +9,7 @@ use Rattle.cap_grammar.specs.declared.tree.ObjTok.{ObjTok}
 use Rattle.cap_grammar.specs.declared.tree.ObjTok.TheVariants.{Dim, Parts, Relation, Dims}
 use Rattle.cap_grammar.specs.declared.tree.MorTok.{MorTok}
 use Rattle.cap_grammar.specs.declared.tree.MorTok.TheVariants as matrices
+use Rattle.cap_grammar.specs.declared.tree.Block.{Block}
 use Rattle.cap_grammar.specs.declared.tree.Over.{Over}
 use Rattle.cap_grammar.specs.declared.tree.Over.TheVariants.{Vec, Add, Freyd, Rep}
 use Rattle.cap_grammar.specs.declared.tree.Command.{Command}
@@ -16,7 +17,9 @@ use Rattle.cap_grammar.specs.declared.tree.Command.TheVariants.{Register, Finali
 use Rattle.cap_grammar.specs.declared.tree.Item.{Item}
 use Rattle.cap_grammar.specs.declared.tree.Item.TheVariants as top
 use Rattle.cap_grammar.specs.declared.tree.Script.{Script}
-use Rattle.cap_block_faults.specs.Names.{Part, objects_of, lines_of, is_quiver, over_of}
+use Rattle.cap_field.specs.Residue.{is_tabled}
+use Rattle.cap_block_faults.specs.Blocks.{is_basis, is_arrow}
+use Rattle.cap_block_faults.specs.Names.{Part, has_block, has_category, objects_of, lines_of, is_quiver, over_of}
 use Rattle.cap_checked.specs.Checked.{basis, listed}
 use Rattle.cap_sound.specs.Plain.{number}
 
@@ -102,7 +105,11 @@ HasMorphismForm parts (Add block) lit = IsMatrix true lit
 HasMorphismForm parts (Freyd block) lit = IsMatrix true lit
 HasMorphismForm parts (Rep block) lit = IsNatural (length (objects_of parts block)) lit
 
--- a command behind these parts: the category of its literal is there, and the literal has its form
+-- a category that is there
+abbrev pub IsKnown : List Part → List ℕ → Type 0
+IsKnown parts cat = (over : Over) × (over_of parts cat ≡ Some over)
+
+-- a literal in a category that is there, and of its form
 pub record HasObject (parts : List Part) (cat : List ℕ) (lit : ObjTok) : Type 0 where
   pub over : Over
   pub known : over_of parts cat ≡ Some over
@@ -113,23 +120,50 @@ pub record HasMorphism (parts : List Part) (cat : List ℕ) (lit : MorTok) : Typ
   pub known : over_of parts cat ≡ Some over
   pub form : HasMorphismForm parts over lit
 
+-- a command behind these parts
 abbrev pub CommandFits : List Part → Command ObjTok MorTok → Type 0
-CommandFits parts (Register cat op weight) = Unit {0}
-CommandFits parts (Finalise cat) = Unit {0}
-CommandFits parts (Plan cat) = Unit {0}
+CommandFits parts (Register cat op weight) = IsKnown parts cat
+CommandFits parts (Finalise cat) = IsKnown parts cat
+CommandFits parts (Plan cat) = IsKnown parts cat
 CommandFits parts (Object cat x lit) = HasObject parts cat lit
 CommandFits parts (Src x of) = Unit {0}
 CommandFits parts (Tgt x of) = Unit {0}
 CommandFits parts (Let x cat src tgt lit) = HasMorphism parts cat lit
-CommandFits parts (Call x cat op args) = Unit {0}
+CommandFits parts (Call x cat op args) = IsKnown parts cat
+
+-- what a category is over: a prime of the table, or a block that is there
+abbrev pub OverFits : List Part → Over → Type 0
+OverFits parts (Vec prime) = is_tabled prime ≡ true
+OverFits parts (Add block) = has_block parts block ≡ true
+OverFits parts (Freyd block) = has_block parts block ≡ true
+OverFits parts (Rep block) = has_block parts block ≡ true
+
+-- a category with a new name
+pub record CategoryFits (before : List Part) (name : List ℕ) (over : Over) : Type 0 where
+  pub new : has_category before name ≡ false
+  pub fits : OverFits before over
+
+-- a bound of paths' lengths, of 1 to 16, where there is one
+abbrev pub IsBound : Option ℕ → Type 0
+IsBound None = Unit {0}
+IsBound (Some n) = (1 ≤ n) × (n ≤ 16)
+
+-- a block with a new name, over a prime of the table, with at most 16 objects, and 128 basis elements or 64 arrows
+pub record BlockFits (before : List Part) (b : Block) : Type 0 where
+  pub new : has_block before b.name ≡ false
+  pub prime : is_tabled b.prime ≡ true
+  pub bound : IsBound b.bound
+  pub objects : length b.objects ≤ 16
+  pub elements : count_by is_basis b.lines ≤ 128
+  pub arrows : count_by is_arrow b.lines ≤ 64
 
 -- a part of the prelude, behind these
 abbrev pub ItemFits : List Part → Item ObjTok MorTok → Type 0
-ItemFits before (top.Block b) = Unit {0}
-ItemFits before (top.Category n over) = Unit {0}
+ItemFits before (top.Block b) = BlockFits before b
+ItemFits before (top.Category n over) = CategoryFits before n over
 ItemFits before (top.Command c) = CommandFits before c
 
--- each command of a script: of the prelude behind the parts before it, and of the sessions behind the whole prelude
-pub record LiteralsFit (s : Script) : Type 0 where
+-- each part of a script's prelude behind the parts before it, and each command of its sessions behind the whole prelude
+pub record ScriptFits (s : Script) : Type 0 where
   pub prelude : (before behind : List Part) (p : Part) → s.prelude ≡ before ++ (p ∷ behind) → ItemFits before p.node
   pub sessions : All (λ x. All (λ c. CommandFits s.prelude c.node) x.node.commands) s.sessions

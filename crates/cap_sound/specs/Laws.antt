@@ -14,7 +14,7 @@ use Rattle.cap_sound.specs.Weights.{AreRanged}
 use Rattle.cap_sound.specs.Marked.{script_marks, told_reasons}
 use Rattle.cap_sound.specs.Plain.{plainly_checked}
 use Rattle.cap_sound.specs.Dimensions.{script_dimensions}
-use Rattle.cap_sound.specs.Forms.{LiteralsFit}
+use Rattle.cap_sound.specs.Forms.{ScriptFits}
 
 -- each mark of a part of a prelude has a place, whatever stands before the part
 abbrev pub PartsHavePlaces : Type 0
@@ -48,6 +48,6 @@ NoNumberIsClamped = (s : Script) → IsGiven s → IsSound s → checked_of s �
 abbrev pub DimensionsAreRanged : Type 0
 DimensionsAreRanged = (s : Script) → IsGiven s → IsSound s → All (λ n. n ≤ 2048) (script_dimensions s)
 
--- each literal has the form that its category asks for, and each name that it looks up is there
-abbrev pub LiteralsHaveForms : Type 0
-LiteralsHaveForms = (s : Script) → IsGiven s → IsSound s → LiteralsFit s
+-- blocks are within their limits, categories over what is there, and literals of the form that their category asks for, in which each name is there
+abbrev pub AllFits : Type 0
+AllFits = (s : Script) → IsGiven s → IsSound s → ScriptFits s

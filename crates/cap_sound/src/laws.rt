@@ -1,5 +1,5 @@
 // The laws of scripts that stand in some text, each a call that does nothing.
-ghost use Rattle.cap_sound.specs.Laws.{PartsHavePlaces, CommandsHavePlaces, SessionsHavePlaces, EveryMarkIsTold, SoundWhereFree, WeightsAreRanged, NoNumberIsClamped, DimensionsAreRanged, LiteralsHaveForms};
+ghost use Rattle.cap_sound.specs.Laws.{PartsHavePlaces, CommandsHavePlaces, SessionsHavePlaces, EveryMarkIsTold, SoundWhereFree, WeightsAreRanged, NoNumberIsClamped, DimensionsAreRanged, AllFits};
 
 /// Each mark that is told of a part, a command or a session has a place of its own.
 pub fn law_places()
@@ -33,7 +33,7 @@ pub fn law_dimensions()
     ensures { DimensionsAreRanged }
 {}
 
-/// Each literal of such a script has the form of its category, and each name that it looks up is there.
-pub fn law_literals()
-    ensures { LiteralsHaveForms }
+/// Such a script has blocks within their limits, categories over what is there, and literals of the form that their category asks for.
+pub fn law_fits()
+    ensures { AllFits }
 {}

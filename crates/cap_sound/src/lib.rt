@@ -4,6 +4,6 @@
 mod laws;
 
 pub use laws::{
-    law_dimensions, law_every_mark_is_told, law_literals, law_no_number_is_clamped, law_places,
+    law_dimensions, law_every_mark_is_told, law_fits, law_no_number_is_clamped, law_places,
     law_sound_where_free, law_weights,
 };
