@@ -1,3 +1,17 @@
 pub mod Lengths
 pub mod Faults
 pub mod Weights
+pub mod Fits
+pub mod Literals
+pub mod Blocks
+pub mod Commands
+pub mod Told
+pub mod Symbols
+pub mod Integers
+pub mod Sizes
+pub mod Dimensions
+pub mod Clamps
+pub mod Sound
+pub mod Forms
+pub mod Fit
+pub mod Examples
