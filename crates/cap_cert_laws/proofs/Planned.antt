@@ -115,7 +115,7 @@ means_for s = means s.regs the_costs s.kind
 way_writable : (s : Subject) → IsPlanned s → (op : ℕ) → op < OPERATIONS → IsWritableWay (slice_index_or s.plan.choices op Missing) (slice_index s.plan.bounds op)
 way_writable s is op lt =
     let bounds = s.plan.bounds in
-    let line : LineHolds (means_for s) s.plan op = plan_lines (means_for s) s.plan costs_are is.plan op lt in
+    let line : LineHolds (means_for s) s.plan op = plan_lines (means_for s) s.plan costs_are.each is.plan op lt in
     let chosen : IsWritableWay (choice_for (means_for s) bounds op) (slice_index bounds op) = chosen_writable (means_for s) bounds op (nat_lt (slice_index bounds op) NO_PLAN) refl costs_numbered (is.plan.bounds op lt).capped line.bound in
     subst (λ choice. IsWritableWay choice (slice_index bounds op)) (sym line.choice) chosen
 
@@ -130,7 +130,7 @@ true_certs line (s ∷ ss) are =
     All-cons (IsTrueCert the_costs) (cert_at line s) (certs_from next ss) (record { plan = (All-head IsPlanned s ss are).plan }) (true_certs next ss (All-tail IsPlanned s ss are))
 
 all_hold : (cert : Cert) → IsTrueCert the_costs cert → AllHold the_costs cert
-all_hold cert is = record { each = plan_lines (means cert.regs the_costs cert.kind) cert.plan costs_are is.plan }
+all_hold cert is = record { each = plan_lines (means cert.regs the_costs cert.kind) cert.plan costs_are.each is.plan }
 
 pub plans_accepted : (ss : List Subject) → AreFew ss → All IsPlanned ss → AreAccepted (all_written ss)
 plans_accepted ss few are =
