@@ -1,3 +1,3 @@
 pub mod Examples
 pub mod Fronts
-mod Forms
+pub mod Forms
