@@ -22,6 +22,14 @@ use Rattle.cap_script.specs.Scripts.{end_of, fault_at, IsParsed, IsTokenFault, I
 use Rattle.cap_script.proofs.Parsed.{a_place_each, text_of_these, no_bad_byte}
 use Rattle.cap_script_laws.specs.Laws.{OneScript, NoScriptWithFault, OneFault}
 
+-- two numbers of which neither is less are equal
+pub neither_less : (m n : ℕ) → (m < n → ⊥) → (n < m → ⊥) → m ≡ n
+neither_less m n less more =
+    ⊎_elim
+    (λ (lt : m < n). absurd (less lt))
+    (λ (ge : n ≤ m). ⊎_elim (λ (gt : n < m). absurd (more gt)) (λ (le : m ≤ n). omega (arith, ge, le)) (cases_lt n m))
+    (cases_lt m n)
+
 pub one_script : OneScript
 one_script bs s t h k = one_value law_script (whole_lines (marks k.symbols k.places) (end_of bs)) s t (text_of_these bs k.symbols k.places s k.are h) k.text
 
@@ -68,15 +76,7 @@ not_before text m n h k lt =
     h.after (omega (arith, lt, within)) (goes_on_before text (suc m) n lt k.before)
 
 one_place : (text : List Symbol) (m n : ℕ) → IsFault text m → IsFault text n → m ≡ n
-one_place text m n h k =
-    ⊎_elim
-    (λ (lt : m < n). absurd (not_before text m n h k lt))
-    (λ (ge : n ≤ m).
-    ⊎_elim
-    (λ (gt : n < m). absurd (not_before text n m k h gt))
-    (λ (le : m ≤ n). omega (arith, ge, le))
-    (cases_lt n m))
-    (cases_lt m n)
+one_place text m n h k = neither_less m n (not_before text m n h k) (not_before text n m k h)
 
 one_token_fault : (bs : List ℕ) (a b : BadScript) → IsTokenFault bs a → IsTokenFault bs b → a ≡ b
 one_token_fault bs a b h k = h.told ∙ ap (λ n. fault_at (place_at bs n) Token) (one_bad_byte bs h.byte k.byte h.first k.first) ∙ sym k.told
