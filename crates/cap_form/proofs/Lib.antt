@@ -1,5 +1,5 @@
 mod Joined
 mod Pushed
-mod Scanned
-mod Values
+pub mod Scanned
+pub mod Values
 mod Judged
