@@ -1,5 +1,4 @@
 pub mod Certificates
-pub mod Faults
 pub mod Plans
 pub mod Kernels
 pub mod Plain

@@ -14,7 +14,7 @@ use Rattle.cap_top.specs.Judged.{IsNotYet, IsRefusedPlain, IsPlainJudged}
 use Rattle.cap_form.proofs.Scanned.{numbers_of_script}
 use Rattle.cap_form.proofs.Values.{values_split, flat_has_values}
 use Rattle.cap_said_laws.specs.Laws.{SaysOneThing}
-use Rattle.cap_said_laws.proofs.Faults.{sound_or_fault, one_fault_of}
+use Rattle.cap_top.proofs.Faults.{sound_or_fault, one_fault_of}
 use Rattle.cap_said_laws.proofs.Kernels.{one_kernel}
 
 -- a small matrix is fixed by its numbers
@@ -58,10 +58,10 @@ one_refusal : (bytes text words : List ℕ) → IsRefusedPlain bytes text → Is
 one_refusal bytes text words h k = h.text_is ∙ ap refusal_text (one_bad bytes h.bad k.bad h.why k.why) ∙ sym k.text_is
 
 pub plain_says_one_thing : SaysOneThing IsPlainJudged
-plain_says_one_thing bytes Answered Answered text words h k = (refl, one_answer bytes text words h k)
-plain_says_one_thing bytes Answered Refused text words h k = absurd (k.no_form h.form)
+plain_says_one_thing bytes Answered Answered text words h k = (refl, one_answer bytes text words h.answer k.answer)
+plain_says_one_thing bytes Answered Refused text words h k = absurd (k.no_form h.answer.form)
 plain_says_one_thing bytes Answered Rejected text words h k = absurd k
-plain_says_one_thing bytes Refused Answered text words h k = absurd (h.no_form k.form)
+plain_says_one_thing bytes Refused Answered text words h k = absurd (h.no_form k.answer.form)
 plain_says_one_thing bytes Refused Refused text words h k = (refl, one_refusal bytes text words h k)
 plain_says_one_thing bytes Refused Rejected text words h k = absurd k
 plain_says_one_thing bytes Rejected other text words h k = absurd h

@@ -10,7 +10,7 @@ use Rattle.cap_top.specs.Refusals.{IsFault, refusal_text}
 use Rattle.cap_top.specs.Judged.{IsPlanned, IsUnbuilt, IsRefusedPlan, IsPlanJudged}
 use Rattle.cap_said_laws.specs.Laws.{SaysOneThing}
 use Rattle.cap_said_laws.proofs.Certificates.{one_certificates}
-use Rattle.cap_said_laws.proofs.Faults.{one_form, no_first, one_first, sound_or_fault, one_fault_of}
+use Rattle.cap_top.proofs.Faults.{one_form, no_first, one_first, sound_or_fault, one_fault_of}
 
 one_unbuilt : (bytes : List ℕ) (a b : BadScript) → IsUnbuilt bytes a → IsUnbuilt bytes b → a ≡ b
 one_unbuilt bytes a b h k = one_first (unbuilt k.form.prelude) a b (ap (λ form. first (unbuilt form.prelude)) (one_form bytes k.form h.form k.sound h.sound) ∙ h.first_unbuilt) k.first_unbuilt

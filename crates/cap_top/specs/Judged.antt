@@ -24,6 +24,12 @@ pub record IsNotYet (bytes : List ℕ) (bad : BadScript) : Type 0 where
   pub sound : IsSoundText bytes form
   pub told : bad ≡ not_yet
 
+-- `cap plain` answers a script without faults that is of the first form
+pub record IsAnsweredPlain (bytes text : List ℕ) : Type 0 where
+  pub form : Checked
+  pub sound : IsSoundText bytes form
+  pub answer : IsAnswer bytes text
+
 -- `cap plain` refuses what is not of the first form: by the first fault, or as what can't be run yet
 pub record IsRefusedPlain (bytes text : List ℕ) : Type 0 where
   pub no_form : IsForm bytes → ⊥
@@ -33,7 +39,7 @@ pub record IsRefusedPlain (bytes text : List ℕ) : Type 0 where
 
 -- `cap plain`
 abbrev pub IsPlainJudged : Judging
-IsPlainJudged bytes Answered text = IsAnswer bytes text
+IsPlainJudged bytes Answered text = IsAnsweredPlain bytes text
 IsPlainJudged bytes Refused text = IsRefusedPlain bytes text
 IsPlainJudged bytes Rejected text = ⊥
 

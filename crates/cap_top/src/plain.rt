@@ -1,7 +1,7 @@
 // `cap plain`: a script from standard input, and what it prints.
-ghost use Rattle.std.specs.Prelude.{◌≡◌, ◌⊎◌, ◌<◌, ◌-◌, ◌^◌, IfOk, List, ℕ, length};
-ghost use Rattle.cap_top.specs.Refusals.{IsFault, not_yet};
-ghost use Rattle.cap_top.specs.Judged.{IsPlainJudged, IsNotYet};
+ghost use Rattle.std.specs.Prelude.{◌≡◌, List, ℕ};
+ghost use Rattle.cap_top.specs.Refusals.{not_yet};
+ghost use Rattle.cap_top.specs.Judged.{IsPlainJudged};
 ghost use Rattle.cap_top.specs.Run.{Outside, IsPlainRun};
 
 use crate::judging::{Judge, Said};
@@ -14,19 +14,14 @@ use cap_io::{Gate, Sink, Source};
 use cap_names::{BadScript, Reason};
 use std::alloc::{AllocError, Global};
 
-/// Why bytes that are not of the first form are refused: the first fault, or a limit at the beginning where there is none.
-fn why(alloc: Global, bytes: &[u8]) -> Result<BadScript, AllocError>
-    requires { length bytes.now < 2 ^ 32 - 1 }
-    ensures { IfOk result (λ bad. IsFault bytes.now bad ⊎ IsNotYet bytes.now bad) }
+/// What is told of a script without faults that can't be run yet.
+fn not_yet() -> BadScript
+    ensures { result ≡ not_yet }
 {
-    match read_script(alloc, bytes) {
-        Ok(_script) => Ok(BadScript {
-            line: 1,
-            column: 1,
-            reason: Reason::Limit,
-        }),
-        Err(CheckFault::Bad(bad)) => Ok(bad),
-        Err(CheckFault::NoMemory) => Err(AllocError),
+    BadScript {
+        line: 1,
+        column: 1,
+        reason: Reason::Limit,
     }
 }
 
@@ -37,12 +32,13 @@ impl Judge for Plain {
     ghost says = { IsPlainJudged };
 
     fn judge(&self, alloc: Global, bytes: &[u8]) -> Result<(Said, Vec<u8>), AllocError> {
-        match answer(alloc, bytes)? {
-            Some(text) => Ok((Said::Answered, text.into_bytes())),
-            None => {
-                let bad = why(alloc, bytes)?;
-                Ok((Said::Refused, refusal_text(alloc, bad)?))
-            }
+        match read_script(alloc, bytes) {
+            Ok(_script) => match answer(alloc, bytes)? {
+                Some(text) => Ok((Said::Answered, text.into_bytes())),
+                None => Ok((Said::Refused, refusal_text(alloc, not_yet())?)),
+            },
+            Err(CheckFault::Bad(bad)) => Ok((Said::Refused, refusal_text(alloc, bad)?)),
+            Err(CheckFault::NoMemory) => Err(AllocError),
         }
     }
 }

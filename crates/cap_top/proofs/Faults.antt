@@ -1,5 +1,5 @@
 -- A text is sound with one checked form, or has one fault.
-use Rattle.std.proofs.Common.{◌≡◌, ℕ, List, [], Some, sym, ap, ◌∙◌, ⊎_elim}
+use Rattle.std.proofs.Common.{◌≡◌, ℕ, List, [], Some, refl, sym, ap, ◌∙◌, ⊎_elim}
 use Rattle.cap_names.specs.declared.reasons.BadScript.{BadScript}
 use Rattle.cap_script.specs.declared.fault.ScriptFault.TheVariants as parsing
 use Rattle.cap_script.specs.Scripts.{IsCause}
@@ -8,6 +8,8 @@ use Rattle.cap_faults.specs.Scripts.{script_faults}
 use Rattle.cap_checked.specs.declared.tree.Checked.{Checked}
 use Rattle.cap_checked.specs.Checked.{checked_of}
 use Rattle.cap_script_laws.proofs.Once.{one_script, script_or_fault, one_fault}
+use Rattle.cap_form.specs.Form.{IsForm}
+use Rattle.cap_form_laws.proofs.Forms.{forms_are_scripts}
 use Rattle.cap_top.specs.Refusals.{IsSoundText, IsFaultyText, IsFault}
 
 -- a text has one checked form
@@ -47,3 +49,9 @@ one_fault_of bytes a b h k =
     (λ (other : IsFaultyText bytes b). one_faulty bytes a b faulty other)
     k)
     h
+
+-- a text of the first form has no fault
+pub no_fault_of_form : (bytes : List ℕ) (bad : BadScript) → IsFault bytes bad → IsForm bytes → ⊥
+no_fault_of_form bytes bad fault form =
+    let is = forms_are_scripts bytes form in
+    sound_or_fault bytes (checked_of is.0) bad (record { script = is.0; parsed = is.1; sound = is.2; formed = refl }) fault
