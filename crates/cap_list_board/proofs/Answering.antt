@@ -139,5 +139,5 @@ module _ {X O M : Type 0} (s : Lists X O M) (key : Key M) (out : PrimOut O M) (s
   pub new-answers : (a : PutAnswer M) → IsNew s.entries key → HasRoom s out → a ≡ Kept (settled (length s.objects) out.out) → s' ≡ record (with_entry s key out) { seen = s.seen ++ Put key out a ∷ [] } → ListPuts s key out a s'
   new-answers a new room is added = record { after = with_entry s key out; answer = subst (λ x. PutAnswers s key out x (with_entry s key out)) (sym is) (inr (new, room, refl, refl)); added = added }
 
-  pub full-answers : (entries cells : ℕ) → IsNew s.entries key → HasNoRoom s out → entries ≡ length s.entries → s' ≡ record s { seen = s.seen ++ Put key out (PutFull entries cells) ∷ [] } → ListPuts s key out (PutFull entries cells) s'
-  full-answers entries cells new room is added = record { after = s; answer = (new, room, is, refl); added = added }
+  pub full-answers : (entries : ℕ) → IsNew s.entries key → HasNoRoom s out → entries ≡ length s.entries → s' ≡ record s { seen = s.seen ++ Put key out (PutFull entries 0) ∷ [] } → ListPuts s key out (PutFull entries 0) s'
+  full-answers entries new room is added = record { after = s; answer = (new, room, is, refl, refl); added = added }

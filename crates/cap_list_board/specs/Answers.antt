@@ -12,12 +12,12 @@ use Rattle.cap_settle.specs.Settled.{settled}
 use Rattle.cap_list_board.specs.declared.entries.Seen.TheVariants.{Ask, Put}
 use Rattle.cap_list_board.specs.Lists.{Lists, IsKept, IsNew}
 
--- a hit exactly where an equal key is kept; else not final without a plan, full where the limit is reached, and the plan's choice
+-- a hit exactly where an equal key is kept; else not final without a plan, full where the limit is reached, and the plan's choice; cells aren't counted, and told as 0
 abbrev pub AskAnswer : {X O M : Type 0} → Lists X O M → Key M → Asked M → Type 0
 AskAnswer s key (Hit v) = IsKept s.entries key v
 AskAnswer s key (Miss c) = IsNew s.entries key × (length s.entries < s.limit) × ((p : Plan) × (s.plan ≡ Some p) × (choice p key.op.0 ≡ c))
 AskAnswer s key NotFinal = IsNew s.entries key × (s.plan ≡ None)
-AskAnswer s key (Full entries cells) = IsNew s.entries key × (s.limit ≤ length s.entries) × (entries ≡ length s.entries) × ((p : Plan) × (s.plan ≡ Some p))
+AskAnswer s key (Full entries cells) = IsNew s.entries key × (s.limit ≤ length s.entries) × (entries ≡ length s.entries) × (cells ≡ 0) × ((p : Plan) × (s.plan ≡ Some p))
 
 -- an ask adds itself with its answer, and changes nothing else
 pub record ListAsks {X O M : Type 0} (s : Lists X O M) (key : Key M) (a : Asked M) (s' : Lists X O M) : Type 0 where
@@ -39,7 +39,7 @@ with_entry s key out = record s { objects = s.objects ++ out.fresh; entries = s.
 -- a put of a kept key answers the kept value and keeps the list; a new one is the next entry; else the list is full
 abbrev pub PutAnswers : {X O M : Type 0} → Lists X O M → Key M → PrimOut O M → PutAnswer M → Lists X O M → Type 0
 PutAnswers s key out (Kept v) t = (IsKept s.entries key v × (t ≡ s)) ⊎ (IsNew s.entries key × HasRoom s out × (v ≡ settled (length s.objects) out.out) × (t ≡ with_entry s key out))
-PutAnswers s key out (PutFull entries cells) t = IsNew s.entries key × HasNoRoom s out × (entries ≡ length s.entries) × (t ≡ s)
+PutAnswers s key out (PutFull entries cells) t = IsNew s.entries key × HasNoRoom s out × (entries ≡ length s.entries) × (t ≡ s) × (cells ≡ 0)
 
 -- a put adds itself with its answer, and changes only what its answer says
 pub record ListPuts {X O M : Type 0} (s : Lists X O M) (key : Key M) (out : PrimOut O M) (a : PutAnswer M) (s' : Lists X O M) : Type 0 where

@@ -7,6 +7,8 @@ mod entries;
 mod list_board;
 mod offered;
 mod places;
+#[cfg(test)]
+mod tests;
 
 pub use cap_board::{Asked, Board, PutAnswer};
 pub use entries::{Entry, Seen};

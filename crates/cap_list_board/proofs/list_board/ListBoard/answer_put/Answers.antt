@@ -16,4 +16,4 @@ returns-then-has_room-clause-ok g c =
     ok-then (λ a. (a ≡ Kept (settled (length s.objects) out.out)) × (s' ≡ record (with_entry s key out) { seen = s.seen ++ Put key out a ∷ [] })) (λ a. ListPuts s key out a s') c.keep.result c.keep.ensures.ok (λ a h. new-answers s key out s' a (subst (λ es. IsNew es c.args.key.now) c.entries.ensures c.in_default.ensures) c.if-has_room.ensures h.0 h.1)
 
 pub returns-clause-ok : goal.returns-clause-ok
-returns-clause-ok g c = full-answers c.args.self.now c.args.key.now c.args.out c.add_put.new.self c.count-entries.result 0 (subst (λ es. IsNew es c.args.key.now) c.entries.ensures c.in_default.ensures) c.if-has_room.ensures c.count-entries.ensures c.in_ok-add_put.ensures.ok
+returns-clause-ok g c = full-answers c.args.self.now c.args.key.now c.args.out c.add_put.new.self c.count-entries.result (subst (λ es. IsNew es c.args.key.now) c.entries.ensures c.in_default.ensures) c.if-has_room.ensures c.count-entries.ensures c.in_ok-add_put.ensures.ok
