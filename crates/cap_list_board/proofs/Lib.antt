@@ -1,0 +1,4 @@
+pub mod InLists
+pub mod Growing
+pub mod Answering
+pub mod Readied
