@@ -92,7 +92,10 @@ fn each_category_has_a_certificate_in_order(rt: HostRuntime) -> Result<(), Fail>
     let none = certified(&rt, rt.alloc(), table, "")?;
     assert!(rt; none.as_str().is_empty());
     let bare = certified(&rt, rt.alloc(), "category V vec 5\n", "")?;
-    assert!(rt; bare.as_str().starts_with("certificate 1 V vec\nop Identity missing\n"));
+    assert!(rt;
+        bare.as_str()
+            .starts_with("certificate 1 V vec\nop Identity missing\n")
+    );
     assert_eq!(rt; bare.as_str().matches("missing\n").count(), 44);
     Ok(())
 }
