@@ -4,30 +4,22 @@ use Rattle.cap_field.specs.Residue.{is_tabled}
 use Rattle.cap_matrix.specs.Grid.{Grid}
 use Rattle.cap_ops.specs.declared.keys.Arg.{Arg}
 use Rattle.cap_ops.specs.declared.keys.Arg.TheVariants.{Obj, Mor, Num}
-use Rattle.cap_ops.specs.Derivations.{AreCosts}
 use Rattle.cap_ops.specs.Arrows.{ValueOver, argument, arguments}
 use Rattle.cap_ops.specs.Values.{object, morphism, scalar}
 use Rattle.cap_ops.specs.Told.{Tells, IsDatum, Known}
 use Rattle.cap_ops.specs.Primitives.{OfferData}
-use Rattle.cap_ops.proofs.DerivationsCosts.{costs_pass}
 use Rattle.cap_terms.specs.declared.body.Rule.{Rule}
 use Rattle.std.proofs.Props.{props}
 use Rattle.cap_small_offer.specs.declared.offer.SmallOffer.{SmallOffer}
 use Rattle.cap_rules.specs.Table.{rule_table}
-use Rattle.cap_rules.proofs.TypedRules.{rules_are_typed, rules_are_counted, rules_are_numbered}
-use Rattle.cap_run.specs.Plans.{costs_of, AreRules}
+use Rattle.cap_call_laws.proofs.Values.{rules_are}
+use Rattle.cap_run.specs.Plans.{AreRules}
 use Rattle.cap_board.proofs.Told.{tells-snoc, data-snoc}
 use Rattle.cap_small_laws.specs.Small.{small_category}
 use Rattle.cap_list_board.specs.Lists.{Lists, empty_lists, told_in}
 use Rattle.cap_list_board.specs.Holds.{Holds}
 use Rattle.cap_list_board.specs.Benches.{IsBench, IsArgumentOf}
 use Rattle.cap_list_board.proofs.InLists.{map-snoc}
-
-pub costs_are : AreCosts (costs_of rule_table)
-costs_are = costs_pass (costs_of rule_table) refl refl
-
-pub rules_are : AreRules rule_table
-rules_are = record { numbered = rules_are_numbered; typed = rules_are_typed; counted = rules_are_counted; costs = costs_are.each }
 
 module _ {X O M : Type 0} (offered : X → OfferData O M) where
   pub new-bench : (s : Lists X O M) (first offer : X) (own rules : List Rule) (limit : ℕ) → s ≡ empty_lists first own limit → Holds (offered first) s → first ≡ offer → own ≡ rule_table → rules ≡ rule_table → IsBench offered s offer rules

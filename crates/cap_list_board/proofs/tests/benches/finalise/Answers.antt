@@ -1,6 +1,6 @@
 use Rattle.std.proofs.Common.{sym, subst}
 use Rattle.cap_ops.specs.Derivations.{AreCosts}
-use Rattle.cap_list_board.proofs.Readied.{costs_are}
+use Rattle.cap_call_laws.proofs.Values.{costs_are}
 use Rattle.cap_list_board.proofs.tests.benches.finalise.Goals as goal
 
 pub finalise-requires-clause-plannable : goal.finalise-requires-clause-plannable
