@@ -1,28 +1,15 @@
 -- Kernels and cokernels with their ends beside, and abelian categories, from those of the data.
 use Rattle.std.proofs.Common.{◌≡◌, refl, sym, ◌∙◌}
 use Rattle.cap_laws.specs.Linear.{CategoryData, Arrow, Same}
-use Rattle.cap_laws.specs.Universal.{opposite, IsMono, IsKernel, IsZeroObject, HasHalfAbelian, IsAdditive, IsAbelian}
+use Rattle.cap_laws.specs.Universal.{opposite, IsMono, IsKernel, HasHalfAbelian, IsAdditive}
+use Rattle.cap_laws.proofs.Opposite.{turn, turned}
 use Rattle.cap_ops.specs.Arrows.{Between}
 use Rattle.cap_between.specs.WithEnds.{from_to, with_ends}
 use Rattle.cap_between.specs.Laws.{EndsAbelian}
-use Rattle.cap_between.proofs.Ends.{down, down-same, up, up-same, ends_direct_sum}
+use Rattle.cap_between.proofs.Ends.{down, down-same, up, up-same, kernel-up, ends_direct_sum}
 
--- kernels: with the ends that the morphisms name, and of the data
+-- kernels and monos of the data, from those with their ends beside
 module _ {O M : Type 0} (C : CategoryData O M) where
-  kernel-up : {k a b : O} {f i : Between O M} → i.src ≡ k → i.tgt ≡ a → Arrow (with_ends C) a b f → IsKernel C k a b f.value i.value → IsKernel (with_ends C) k a b f i
-  kernel-up {k} {a} {b} {f} {i} d e F K = record {
-    arrow = up d e K.arrow;
-    zero = up-same d F.to refl refl K.zero;
-    lift = λ {x} {t} T S.
-        let U = K.lift (down T) (down-same S) in
-        record {
-          by = from_to x k U.by;
-          arrow = up refl refl U.arrow;
-          holds = up-same refl e T.from T.to U.holds;
-          only = λ V W P Q. up-same V.from V.to W.from W.to (U.only (down V) (down W) (down-same P) (down-same Q));
-        };
-  }
-
   kernel-down : {k a b : O} {f i : Between O M} → IsKernel (with_ends C) k a b f i → IsKernel C k a b f.value i.value
   kernel-down {k} {a} {b} {f} {i} K = record {
     arrow = down K.arrow;
@@ -111,9 +98,9 @@ module _ {O M : Type 0} (C : CategoryData O M) where
   half-up H = record {
     kernel = λ {a} {b} {f} F.
         let k = H.kernel (down F) in
-        record { object = k.object; by = from_to k.object a k.by; is = kernel-up C refl refl F k.is };
+        record { object = k.object; by = from_to k.object a k.by; is = kernel-up refl refl F k.is };
     mono_is_kernel = λ {a} {b} {c} {f} {p} m P.
-        kernel-up C m.arrow.from m.arrow.to (record { is = P.arrow.is; from = P.arrow.to; to = P.arrow.from }) (H.mono_is_kernel (mono-down C m) (cokernel-down C P));
+        kernel-up m.arrow.from m.arrow.to (turned P.arrow) (H.mono_is_kernel (mono-down C m) (cokernel-down C P));
   }
 
   opposite-half-up : HasHalfAbelian (opposite C) → HasHalfAbelian (opposite (with_ends C))
@@ -122,7 +109,7 @@ module _ {O M : Type 0} (C : CategoryData O M) where
         let k = H.kernel (back-down C F) in
         record { object = k.object; by = from_to a k.object k.by; is = cokernel-up C refl refl F k.is };
     mono_is_kernel = λ {a} {b} {c} {f} {p} m P.
-        cokernel-up C m.arrow.from m.arrow.to (record { is = P.arrow.is; from = P.arrow.to; to = P.arrow.from }) (H.mono_is_kernel (epi-down C m) (kernel-down C P));
+        cokernel-up C m.arrow.from m.arrow.to (turn P.arrow) (H.mono_is_kernel (epi-down C m) (kernel-down C P));
   }
 
 pub ends_abelian : {O M : Type 0} (C : CategoryData O M) → EndsAbelian C
