@@ -2,6 +2,7 @@
 use Rattle.std.proofs.Common.{◌≡◌, refl, sym, ◌∙◌, subst}
 use Rattle.std.specs.Prelude.{Some, None}
 use Rattle.cap_laws.specs.Linear.{CategoryData, IsLinear, Arrow, Same}
+use Rattle.cap_laws.specs.Universal.{IsKernel}
 use Rattle.cap_ops.specs.Arrows.{Between}
 use Rattle.cap_between.specs.WithEnds.{from_to, with_ends}
 use Rattle.cap_between.specs.Laws.{EndsLinear, EndsPlain, EndsKernel, EndsLift, EndsDirectSum}
@@ -56,19 +57,23 @@ ends_linear C L = record {
 pub ends_plain : {O M : Type 0} (C : CategoryData O M) → EndsPlain C
 ends_plain C = record { source = refl; target = refl }
 
-pub ends_kernel : {O M : Type 0} (C : CategoryData O M) → EndsKernel C
-ends_kernel C k a b f i F K = record {
-  arrow = up refl F.from K.arrow;
-  zero = up-same refl F.to refl refl K.zero;
-  lift = λ {x = x} T S.
+-- a kernel of the data, with the ends that a morphism names
+pub kernel-up : {O M : Type 0} {C : CategoryData O M} {k a b : O} {f i : Between O M} → i.src ≡ k → i.tgt ≡ a → Arrow (with_ends C) a b f → IsKernel C k a b f.value i.value → IsKernel (with_ends C) k a b f i
+kernel-up {k = k} {f = f} d e F K = record {
+  arrow = up d e K.arrow;
+  zero = up-same d F.to refl refl K.zero;
+  lift = λ {x} {t} T S.
       let U = K.lift (down T) (down-same S) in
       record {
         by = from_to x k U.by;
         arrow = up refl refl U.arrow;
-        holds = up-same refl F.from T.from T.to U.holds;
+        holds = up-same refl e T.from T.to U.holds;
         only = λ V W P Q. up-same V.from V.to W.from W.to (U.only (down V) (down W) (down-same P) (down-same Q));
       };
 }
+
+pub ends_kernel : {O M : Type 0} (C : CategoryData O M) → EndsKernel C
+ends_kernel C k a b f i F K = kernel-up refl F.from F K
 
 pub ends_lift : {O M : Type 0} (C : CategoryData O M) → EndsLift C
 ends_lift C x a b t f (Some u) T F l = (up T.from F.from l.0, up-same T.from F.to T.from T.to l.1)

@@ -1,1 +1,2 @@
+pub mod Abelian
 pub mod Ends

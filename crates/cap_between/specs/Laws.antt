@@ -1,7 +1,7 @@
 -- What a category's morphisms are and have, they are and have with their ends beside.
 use Rattle.std.specs.Prelude.{Option, option_map}
 use Rattle.cap_laws.specs.Linear.{CategoryData, IsLinear, Arrow}
-use Rattle.cap_laws.specs.Universal.{IsKernel, IsLift, IsDirectSum}
+use Rattle.cap_laws.specs.Universal.{IsKernel, IsLift, IsDirectSum, IsAbelian}
 use Rattle.cap_ops.specs.Arrows.{Between}
 use Rattle.cap_ops.specs.Told.{HasPlainEnds}
 use Rattle.cap_between.specs.WithEnds.{from_to, with_ends}
@@ -28,3 +28,7 @@ module _ {O M : Type 0} (C : CategoryData O M) where
   abbrev pub EndsDirectSum : Type 0
   EndsDirectSum = (s a b : O) (i1 i2 p1 p2 : M) → IsDirectSum C s a b i1 i2 p1 p2
       → IsDirectSum (with_ends C) s a b (from_to a s i1) (from_to b s i2) (from_to s a p1) (from_to s b p2)
+
+  -- they are an abelian category where the data are
+  abbrev pub EndsAbelian : Type 0
+  EndsAbelian = IsAbelian C → IsAbelian (with_ends C)

@@ -1,5 +1,5 @@
 // The laws, each a call that does nothing.
-ghost use Rattle.cap_between.specs.Laws.{EndsLinear, EndsPlain, EndsKernel, EndsLift, EndsDirectSum};
+ghost use Rattle.cap_between.specs.Laws.{EndsLinear, EndsPlain, EndsKernel, EndsLift, EndsDirectSum, EndsAbelian};
 
 use cap_laws::Cat;
 
@@ -26,4 +26,9 @@ pub fn law_ends_lift<C: Cat>()
 /// They have the direct sums of their data.
 pub fn law_ends_direct_sum<C: Cat>()
     ensures { (c : C) → EndsDirectSum (C.category c) }
+{}
+
+/// They are an abelian category where their data are.
+pub fn law_ends_abelian<C: Cat>()
+    ensures { (c : C) → EndsAbelian (C.category c) }
 {}

@@ -4,5 +4,6 @@
 mod laws;
 
 pub use laws::{
-    law_ends_direct_sum, law_ends_kernel, law_ends_lift, law_ends_linear, law_ends_plain,
+    law_ends_abelian, law_ends_direct_sum, law_ends_kernel, law_ends_lift, law_ends_linear,
+    law_ends_plain,
 };

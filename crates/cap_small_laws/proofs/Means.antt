@@ -1,13 +1,14 @@
--- The small offer's category is linear, and each answer of its primitives has its operation's meaning.
+-- The small offer's category is linear and abelian, and each answer of its primitives has its operation's meaning.
 use Rattle.std.proofs.Common.{◌≡◌, ℕ, ◌+◌, Bool, true, false, List, [], ◌∷◌, Option, Some, None, refl, sym, subst}
 use Rattle.std.specs.Prelude.{MatchBool, ◌==◌, option_map}
 use Rattle.std.proofs.lemmas.Bool.{eqb-true}
 use Rattle.cap_field.specs.Residue.{is_tabled}
 use Rattle.cap_matrix.specs.Summands.{first_in, second_in, first_out, second_out}
 use Rattle.cap_laws.specs.Linear.{IsLinear, Same, Arrow as Goes}
-use Rattle.cap_laws.specs.Universal.{IsLift}
+use Rattle.cap_laws.specs.Universal.{IsLift, IsAbelian}
 use Rattle.cap_vec_laws.specs.Vec.{vec_data}
 use Rattle.cap_vec_laws.proofs.Linear.{vec_linear}
+use Rattle.cap_vec_laws.proofs.Abelian.{vec_abelian}
 use Rattle.cap_vec_laws.proofs.Members.{kernel_of, lift_of, kernel_is, lift_is}
 use Rattle.cap_vec_laws.proofs.DirectSum.{direct_sum}
 use Rattle.cap_ops.specs.Values.{object, morphism, two, four, truth, scalar, none}
@@ -15,11 +16,15 @@ use Rattle.cap_ops.specs.Told.{HasPlainEnds}
 use Rattle.cap_ops.specs.Primitives.{PrimsMean}
 use Rattle.cap_ops.specs.Meaning.{Meaning, Meets, a_truth, or_none, LiftOf}
 use Rattle.cap_between.specs.WithEnds.{from_to}
+use Rattle.cap_between.proofs.Abelian.{ends_abelian}
 use Rattle.cap_between.proofs.Ends.{down, ends_linear, ends_plain, ends_kernel, ends_lift, ends_direct_sum}
 use Rattle.cap_small_laws.specs.Small.{Arrow, Datum, Primitive, small_category, small_primitives, small_data, sum_datum, kernel_datum, lift_datum, perhaps, answer_in}
 
 pub small_linear : (p : ℕ) (t : is_tabled p ≡ true) → IsLinear (small_category p t)
 small_linear p t = ends_linear (vec_data p) (vec_linear p t)
+
+pub small_abelian : (p : ℕ) (t : is_tabled p ≡ true) → IsAbelian (small_category p t)
+small_abelian p t = ends_abelian (vec_data p) (vec_abelian p t)
 
 pub small_plain : (p : ℕ) (t : is_tabled p ≡ true) → HasPlainEnds (small_category p t)
 small_plain p t = ends_plain (vec_data p)
