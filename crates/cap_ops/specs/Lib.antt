@@ -9,3 +9,4 @@ pub mod Told
 pub mod Mismatches
 pub mod Scan
 pub mod Primitives
+pub mod Numbers
