@@ -1,5 +1,5 @@
 -- The operations in the order of their numbers.
-use Rattle.std.proofs.Common.{◌≡◌, ℕ, ◌+◌, ◌-◌, ◌<◌, List, length, get_or, map, Some, refl, sym, ap, subst, ◌∙◌, arith}
+use Rattle.std.proofs.Common.{◌≡◌, ℕ, ◌+◌, ◌-◌, ◌<◌, ◌≤◌, List, length, get_or, map, Some, refl, sym, ap, subst, ◌∙◌, arith}
 use Rattle.std.specs.Prelude.{◌↔◌, slice_get, Contains}
 use Rattle.std.specs.List.{All, enumerate_from}
 use Rattle.std.proofs.lemmas.List.{get_or-map}
@@ -7,10 +7,10 @@ use Rattle.std.proofs.lemmas.List.FromFn.{length-enumerate_from, get_or-enumerat
 use Rattle.std.proofs.lemmas.Option.{slice_get-get_or, slice_get_within, get_or_from_slice_get}
 use Rattle.cap_names.specs.Operations.{operation_names, IsNamed}
 use Rattle.cap_ops.specs.Operations.{operation}
-use Rattle.cap_ops.specs.Numbers.{numbered, IsNumbered}
+use Rattle.cap_ops.specs.Numbers.{numbered, numbers_and_names, IsNumbered}
 
 -- the table's numbers and names are the names in order, counted from 1
-in_order : map (λ l. (l.number, l.name)) numbered ≡ enumerate_from 1 operation_names
+in_order : numbers_and_names ≡ enumerate_from 1 operation_names
 in_order = refl
 
 -- an element of a list, with its place counted from 1
@@ -23,9 +23,11 @@ counted xs n x first is =
 
 -- and back
 uncounted : {X : Type 0} (xs : List X) (n : ℕ) (x : X) → Contains (enumerate_from 1 xs) (n, x) → (1 ≤ n) × (slice_get xs (n - 1) ≡ Some x)
-uncounted xs n x is =
+uncounted {X} xs n x is =
     let within : is.0 < length xs = omega (arith, length-enumerate_from 1 xs, is.1) in
-    let at : (1 + is.0, get_or xs is.0 x) ≡ (n, x) = sym (get_or-enumerate_from 1 xs is.0 (n, x) within) ∙ is.2 in
+    let found : ℕ × X = (1 + is.0, get_or xs is.0 x) in
+    let wanted : ℕ × X = (n, x) in
+    let at : found ≡ wanted = sym (get_or-enumerate_from 1 xs is.0 (n, x) within) ∙ is.2 in
     let number : 1 + is.0 ≡ n = ap (λ p. p.0) at in
     let back : n - 1 ≡ is.0 = omega (arith, number) in
     (omega (arith, number), ap (slice_get xs) back ∙ slice_get-get_or xs is.0 x within ∙ ap Some (ap (λ p. p.1) at))

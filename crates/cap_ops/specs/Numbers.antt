@@ -63,6 +63,9 @@ numbered =
     ∷ line 44 (codes "IsExact") IsExact IS_EXACT
     ∷ []
 
--- the table has a line with this number and this name
+-- a line of the table has this number and this name
+abbrev pub numbers_and_names : List (ℕ × List ℕ)
+numbers_and_names = map (λ l. (l.number, l.name)) numbered
+
 abbrev pub IsNumbered : ℕ → List ℕ → Type 0
-IsNumbered number name = Contains (map (λ l. (l.number, l.name)) numbered) (number, name)
+IsNumbered number name = Contains numbers_and_names (number, name)
