@@ -1,6 +1,7 @@
 pub mod Ends
 pub mod Offered
 pub mod Operations
+pub mod Numbers
 pub mod Values
 pub mod Derivations
 pub mod Meaning
@@ -9,4 +10,3 @@ pub mod Told
 pub mod Mismatches
 pub mod Scan
 pub mod Primitives
-pub mod Numbers
