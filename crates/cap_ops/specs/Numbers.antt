@@ -5,17 +5,17 @@ use Rattle.cap_ops.specs.Operations.{Identity, Compose, Zero, Add, Negate, Subtr
 use Rattle.cap_ops.specs.declared.operations.TheConstants.{IDENTITY, COMPOSE, ZERO, ADD, NEGATE, SUBTRACT, SCALE, IS_CONGRUENT, IS_ZERO, ZERO_OBJECT, DIRECT_SUM, PRODUCT, COPRODUCT, PAIR, COPAIR, KERNEL, KERNEL_LIFT, COKERNEL, COKERNEL_COLIFT, WEAK_KERNEL, WEAK_COKERNEL, LIFT, COLIFT, IS_MONO, IS_EPI, IS_ISO, IS_SPLIT_MONO, IS_SPLIT_EPI, INVERSE, SECTION, RETRACTION, EQUALIZER, COEQUALIZER, PULLBACK, PUSHOUT, IMAGE, COIMAGE, KERNEL_MAP, COKERNEL_MAP, INTERSECTION, UNION, IS_SUBOBJECT, HOMOLOGY, IS_EXACT}
 
 -- a line for an operation: its number, its name in scripts and certificates, the definitions' word for it, and the code's constant
-pub record Line : Type 0 where
+pub record TableLine : Type 0 where
   pub number : ℕ
   pub name : List ℕ
   pub word : OpId
   pub constant : OpId
 
-abbrev pub line : ℕ → List ℕ → OpId → OpId → Line
+abbrev pub line : ℕ → List ℕ → OpId → OpId → TableLine
 line number name word constant = record { number = number; name = name; word = word; constant = constant }
 
 -- the table
-abbrev pub numbered : List Line
+abbrev pub numbered : List TableLine
 numbered =
     line 1 (codes "Identity") Identity IDENTITY
     ∷ line 2 (codes "Compose") Compose COMPOSE
