@@ -1,8 +1,8 @@
 -- Worked examples of the definitions, by computation.
-use Rattle.std.proofs.Common.{◌≡◌, [], ◌∷◌, Some, None, refl, inr, false}
+use Rattle.std.proofs.Common.{◌≡◌, [], ◌∷◌, Some, None, refl, inr, false, lit<, lit≤}
 use Rattle.std.specs.Io.KnownBytes.{Consumes}
 use Rattle.cap_io.specs.Faults.{HasRisen, next_count}
-use Rattle.cap_io.specs.Reading.{TellsAlike}
+use Rattle.cap_io.specs.Reading.{TellsAlike, IsPastLimit}
 use Rattle.cap_io.specs.Writing.{Adds}
 use Rattle.cap_io.specs.Memory.{Feed, fed, failed_feed, feed_count, tray_count}
 use Rattle.cap_io.specs.Sure.{spooled, told_by}
@@ -28,6 +28,9 @@ ab_was_taken = refl
 
 told_stays_told : TellsAlike (Some (feed.left)) (Some [])
 told_stays_told = refl
+
+three_bytes_are_past_two : IsPastLimit 2 feed.left
+three_bytes_are_past_two = record { more = lit< tt; most = lit≤ tt }
 
 the_last_count_stays : next_count 18446744073709551615 ≡ 18446744073709551615
 the_last_count_stays = refl

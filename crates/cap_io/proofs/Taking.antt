@@ -3,15 +3,22 @@ use Rattle.std.proofs.Common.{◌≡◌, ℕ, ◌+◌, ◌-◌, ◌<◌, ◌≤�
 use Rattle.std.proofs.lemmas.List.{take_all, drop_all, drop-drop, take-append-le, length-take-le}
 use Rattle.std.specs.Io.KnownBytes.{Consumes}
 use Rattle.std.proofs.KnownBytes.{Consumes-trans}
-use Rattle.cap_io.specs.Reading.{ConsumesSome}
+use Rattle.cap_io.specs.Reading.{ConsumesSome, IsPastLimit, piece_size}
 
 -- some bytes were taken and then some more, together as P says
 pub ConsumesSome-more : (a b c : Option (List ℕ)) (bs cs : List ℕ) (P : List ℕ → Type 0) → Consumes a b bs → Consumes b c cs → P (bs ++ cs) → ConsumesSome a c P
 ConsumesSome-more a b c bs cs P p q h = record { bytes = bs ++ cs; taken = Consumes-trans a b c bs cs p q; are = h }
 
--- more than the limit, where the next bytes are more than is left of it
-pub past_limit : (limit have count : ℕ) (bytes next : List ℕ) → have ≡ length bytes → have ≤ limit → count ≡ length next → limit - have < count → limit < length (bytes ++ next)
-past_limit limit have count bytes next p q r s = omega (arith, length-append bytes next)
+-- more than the limit, where the next bytes are more than is left of it, and at most one piece
+pub past_limit : (limit have count : ℕ) (bytes next : List ℕ) → have ≡ length bytes → have ≤ limit → count ≡ length next → limit - have < count → count ≤ piece_size → IsPastLimit limit (bytes ++ next)
+past_limit limit have count bytes next p q r s t = record {
+  more = omega (arith, length-append bytes next);
+  most = omega (arith, length-append bytes next);
+}
+
+-- at most the limit, where the next bytes are no more than is left of it
+pub within_limit : (limit have count : ℕ) (bytes next : List ℕ) → have ≡ length bytes → have ≤ limit → count ≡ length next → count ≤ limit - have → length (bytes ++ next) ≤ limit
+within_limit limit have count bytes next p q r s = omega (arith, length-append bytes next)
 
 -- what a call gave of the items from a place on, into a buffer: the front of them, and none only at their end
 abbrev GivesFrom : List ℕ → ℕ → ℕ → List ℕ → Type 0

@@ -1,5 +1,5 @@
 // A source and a sink over bytes in memory, whose calls fail as a list says.
-ghost use Rattle.std.specs.Prelude.{◌≡◌, ◌<◌, ◌≤◌, ◌↔◌, [], Some, length, IsErr, IfOk, OnErr, Contains};
+ghost use Rattle.std.specs.Prelude.{◌≡◌, ◌<◌, ◌≤◌, ◌↔◌, [], Some, length, IsErr, IfOk, OnOk, OnErr, Contains};
 ghost use Rattle.std.specs.Io.{ReadsAtMost, WritesAtMost};
 ghost use Rattle.std.specs.Io.KnownBytes.{ReadConsumes};
 ghost use Rattle.cap_io.specs.Faults.{HasRisen};
@@ -72,6 +72,7 @@ impl Source for MemSource {
         ensures taken { ReadConsumes (Some self.old.left) (Some self.new.left) result buf.new }
         ensures told { TellsAlike (Some self.old.left) (Some self.new.left) }
         ensures counted { self.old.faults ≤ self.new.faults }
+        ensures stays { OnOk result (self.new.faults ≡ self.old.faults) }
         ensures fault { OnErr result (HasRisen self.old.faults self.new.faults) }
         ensures fails { IsErr result ↔ Contains self.old.failing self.old.calls }
         ensures failed { OnErr result (self.new ≡ failed_feed self.old) }
@@ -169,6 +170,7 @@ impl Sink for MemSink {
         ensures progress { IfOk result (λ n. 0 < length bytes.now → 0 < n) }
         ensures added { GiveAdds (Some self.old.written) (Some self.new.written) result bytes.now }
         ensures counted { self.old.faults ≤ self.new.faults }
+        ensures stays { OnOk result (self.new.faults ≡ self.old.faults) }
         ensures fault { OnErr result (HasRisen self.old.faults self.new.faults) }
         ensures fails { IsErr result ↔ TrayFails self.old bytes.now }
         ensures failed { OnErr result (self.new ≡ failed_tray self.old) }

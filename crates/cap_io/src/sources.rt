@@ -1,5 +1,5 @@
 // Sources, and reading one to its end.
-ghost use Rattle.std.specs.Prelude.{◌≡◌, ℕ, List, ◌≤◌, Option, Err, OnErr};
+ghost use Rattle.std.specs.Prelude.{◌≡◌, ◌≢◌, ℕ, List, ◌≤◌, Option, Err, OnOk, OnErr};
 ghost use Rattle.std.specs.Io.{ReadsAtMost};
 ghost use Rattle.std.specs.Io.KnownBytes.{ReadConsumes};
 ghost use Rattle.cap_io.specs.Faults.{HasRisen};
@@ -8,7 +8,8 @@ ghost use Rattle.cap_io.specs.Reading.{TellsAlike, IsReadAll};
 use super::errors::{Failed, ReadEnd};
 use std::alloc::Global;
 
-/// Where bytes come from. It may tell the bytes that are left, and counts its faults.
+/// Where bytes come from. It may tell the bytes that are left, and counts its faults: a count rises at each fault and
+/// at nothing else, but stays at 2^64 - 1.
 pub trait Source {
     // The bytes that are left, where the source tells them.
     ghost left: { Self → Option (List ℕ) };
@@ -23,18 +24,20 @@ pub trait Source {
         ensures taken { ReadConsumes (left self.old) (left self.new) result buf.new }
         ensures told { TellsAlike (left self.old) (left self.new) }
         ensures counted { faults self.old ≤ faults self.new }
+        ensures stays { OnOk result (faults self.new ≡ faults self.old) }
         ensures fault { OnErr result (HasRisen (faults self.old) (faults self.new)) };
 }
 
 // How many bytes one call of a source is asked for.
 const PIECE: usize = 4096;
 
-/// All bytes up to the end of input. TooLong exactly where more than `limit` bytes were taken,
-/// Fault only where the source's count of faults rose.
+/// All bytes up to the end of input. TooLong exactly where more than `limit` bytes were taken, and then at most 4,096 more;
+/// Fault exactly where the source's count of faults rose.
 pub fn read_all<S: Source>(alloc: Global, source: &mut S, limit: usize) -> Result<Vec<u8>, ReadEnd>
     ensures bytes { IsReadAll limit (S.left source.old) (S.left source.new) result }
     ensures told { TellsAlike (S.left source.old) (S.left source.new) }
     ensures counted { S.faults source.old ≤ S.faults source.new }
+    ensures stays { result ≢ Err ReadEnd.Fault → S.faults source.new ≡ S.faults source.old }
     ensures fault { result ≡ Err ReadEnd.Fault → HasRisen (S.faults source.old) (S.faults source.new) }
 {
     let mut bytes = Vec::new(alloc);

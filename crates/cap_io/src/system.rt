@@ -51,11 +51,11 @@ impl<R: Read> Source for StdSource<R> {
         ensures taken { ReadConsumes None None result buf.new }
         ensures told { TellsAlike None None }
         ensures counted { self.old.faults ≤ self.new.faults }
+        ensures stays { OnOk result (self.new.faults ≡ self.old.faults) }
         ensures fault { OnErr result (HasRisen self.old.faults self.new.faults) }
 
         // One read of the reader, and a fault at each Err of it.
         ensures read { ReadConsumes self.old.known self.new.known result buf.new }
-        ensures stays { OnOk result (self.new.faults ≡ self.old.faults) }
         ensures rises { OnErr result (self.new.faults ≡ next_count self.old.faults) }
     {
         match self.reader.read(buf) {
@@ -108,11 +108,11 @@ impl<W: Write> Sink for StdSink<W> {
         ensures progress { IfOk result (λ n. 0 < length bytes.now → 0 < n) }
         ensures added { GiveAdds None None result bytes.now }
         ensures counted { self.old.faults ≤ self.new.faults }
+        ensures stays { OnOk result (self.new.faults ≡ self.old.faults) }
         ensures fault { OnErr result (HasRisen self.old.faults self.new.faults) }
 
         // One write of the writer, and a fault at each Err of it and at each that took no byte.
         ensures written { WriteAppends self.old.known self.new.known result bytes.now }
-        ensures stays { OnOk result (self.new.faults ≡ self.old.faults) }
         ensures rises { OnErr result (self.new.faults ≡ next_count self.old.faults) }
     {
         match self.writer.write(bytes) {

@@ -16,3 +16,4 @@ pub mod DerivationsCosts
 pub mod DerivationsSettling
 pub mod DerivationsPlans
 mod DerivationsExamples
+mod Numbering

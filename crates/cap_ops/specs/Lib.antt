@@ -1,6 +1,7 @@
 pub mod Ends
 pub mod Offered
 pub mod Operations
+pub mod Numbers
 pub mod Values
 pub mod Derivations
 pub mod Meaning

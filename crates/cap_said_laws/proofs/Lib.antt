@@ -4,3 +4,4 @@ pub mod Kernels
 pub mod Plain
 pub mod Judgements
 pub mod Checks
+pub mod Statuses

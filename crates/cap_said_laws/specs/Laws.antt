@@ -1,9 +1,12 @@
--- The laws of what is said of an input.
-use Rattle.std.specs.Prelude.{◌≡◌, ℕ, List}
+-- The laws of what is said of an input, and of how a run ends.
+use Rattle.std.specs.Prelude.{◌≡◌, ◌↔◌, ℕ, ◌-◌, ◌^◌, ◌<◌, List}
 use Rattle.cap_check.specs.Unbuilt.{CheckedPart}
 use Rattle.cap_registered.specs.Certificates.{AreCertificates}
 use Rattle.cap_top.specs.declared.judging.Said.{Said}
+use Rattle.cap_top.specs.declared.outcome.Status.{Status}
+use Rattle.cap_top.specs.declared.outcome.Status.TheVariants.{ReadFault, WriteFault}
 use Rattle.cap_top.specs.Judged.{Judging}
+use Rattle.cap_top.specs.Run.{Outside}
 
 -- the certificates of a prelude are one text at most
 abbrev pub OneCertificates : Type 0
@@ -12,3 +15,12 @@ OneCertificates = (parts : List CheckedPart) (text other : List ℕ) → AreCert
 -- a command says one thing at most of the bytes of an input, with one text
 abbrev pub SaysOneThing : Judging → Type 0
 SaysOneThing judged = (bytes : List ℕ) (said other : Said) (text words : List ℕ) → judged bytes said text → judged bytes other words → (said ≡ other) × (text ≡ words)
+
+-- as long as the counts are below their last value: the status is ReadFault exactly where the source's count of faults rose, and WriteFault exactly where the sink's did
+pub record FaultsAreTold (before after : Outside) (status : Status) : Type 0 where
+  pub reading : after.read_faults < 2 ^ 64 - 1 → (status ≡ ReadFault) ↔ (before.read_faults < after.read_faults)
+  pub writing : after.write_faults < 2 ^ 64 - 1 → (status ≡ WriteFault) ↔ (before.write_faults < after.write_faults)
+
+-- the status of each such run tells which faults came
+abbrev pub TellsFaults : (Outside → Outside → Status → Type 0) → Type 0
+TellsFaults is_run = (before after : Outside) (status : Status) → is_run before after status → FaultsAreTold before after status

@@ -1,6 +1,7 @@
-// The laws of what is said of an input, each a call that does nothing.
+// The laws of what is said of an input, and of how a run ends, each a call that does nothing.
 ghost use Rattle.cap_top.specs.Judged.{IsPlainJudged, IsPlanJudged, IsCheckJudged};
-ghost use Rattle.cap_said_laws.specs.Laws.{OneCertificates, SaysOneThing};
+ghost use Rattle.cap_top.specs.Run.{IsPlainRun, IsPlanRun, IsCheckRun, IsUsageRun};
+ghost use Rattle.cap_said_laws.specs.Laws.{OneCertificates, SaysOneThing, TellsFaults};
 
 /// The certificates of a prelude are one text at most.
 pub fn law_certificates_are_determined()
@@ -20,4 +21,13 @@ pub fn law_plain_says_one_thing()
 /// What `cap check` says of an input, and its text, are determined by the input.
 pub fn law_check_says_one_thing()
     ensures { SaysOneThing IsCheckJudged }
+{}
+
+/// A run that waits for nobody ends with ReadFault exactly where the source's count of faults rose, and with WriteFault exactly
+/// where the sink's did, as long as the counts are below 2^64 - 1.
+pub fn law_status_tells_faults()
+    ensures plain { TellsFaults IsPlainRun }
+    ensures plan { TellsFaults IsPlanRun }
+    ensures check { TellsFaults IsCheckRun }
+    ensures usage { TellsFaults IsUsageRun }
 {}

@@ -7,34 +7,34 @@ use Rattle.cap_top.specs.declared.outcome.Status.TheVariants.{Ok, Rejected, Usag
 use Rattle.cap_top.specs.declared.judging.Said.{Said}
 use Rattle.cap_top.specs.declared.judging.Said.TheVariants as said
 use Rattle.cap_top.specs.Judged.{Judging}
-use Rattle.cap_top.specs.Run.{Outside, CallsFor, IsRun, IsSaid, byte_limit, status_of}
+use Rattle.cap_top.specs.Run.{Outside, NoReadFault, NoWriteFault, CallsFor, IsRun, IsSaid, byte_limit, status_of}
 
 pub judged_calls : (says : Judging) (before after : Outside) (what : Said) (bytes text : List ℕ) → says bytes what text → ConsumesAll byte_limit before.left after.left bytes → CallsFor says before after (status_of what) text
 judged_calls says before after said.Answered bytes text h all = record { bytes = bytes; taken = all; are = h }
 judged_calls says before after said.Rejected bytes text h all = record { bytes = bytes; taken = all; are = h }
 judged_calls says before after said.Refused bytes text h all = record { bytes = bytes; taken = all; are = h }
 
-written-run : (says : Judging) (before after : Outside) (status : Status) (text : List ℕ) → CallsFor says before after status text → Adds before.written after.written text → IsRun says before after status
-written-run says before after Ok text called added = record { text = text; called_for = called; added = added }
-written-run says before after Rejected text called added = record { text = text; called_for = called; added = added }
-written-run says before after BadScript text called added = record { text = text; called_for = called; added = added }
-written-run says before after TooLong text called added = record { text = text; called_for = called; added = added }
-written-run says before after Usage text called added = called
-written-run says before after ReadFault text called added = absurd called
-written-run says before after WriteFault text called added = absurd called
-written-run says before after NoMemory text called added = absurd called
+written-run : (says : Judging) (before after : Outside) (status : Status) (text : List ℕ) → CallsFor says before after status text → Adds before.written after.written text → NoReadFault before after → NoWriteFault before after → IsRun says before after status
+written-run says before after Ok text called added read wrote = record { text = text; called_for = called; added = added; read_well = read; wrote_well = wrote }
+written-run says before after Rejected text called added read wrote = record { text = text; called_for = called; added = added; read_well = read; wrote_well = wrote }
+written-run says before after BadScript text called added read wrote = record { text = text; called_for = called; added = added; read_well = read; wrote_well = wrote }
+written-run says before after TooLong text called added read wrote = record { text = text; called_for = called; added = added; read_well = read; wrote_well = wrote }
+written-run says before after Usage text called added read wrote = called
+written-run says before after ReadFault text called added read wrote = absurd called
+written-run says before after WriteFault text called added read wrote = absurd called
+written-run says before after NoMemory text called added read wrote = absurd called
 
-pub said_run : (says : Judging) (before after : Outside) (status : Status) (text : List ℕ) (ended : Status) → CallsFor says before after status text
+pub said_run : (says : Judging) (before after : Outside) (status : Status) (text : List ℕ) (ended : Status) → CallsFor says before after status text → NoReadFault before after
     → IsSaid before.written before.write_faults after.written after.write_faults status text ended → IsRun says before after ended
-said_run says before after status text ended called h = ⊎_elim
-    (λ whole. subst (IsRun says before after) (sym whole.0) (written-run says before after status text called whole.1))
-    (λ front. subst (IsRun says before after) (sym front.0) (record { status = status; text = text; called_for = called; added = front.1; risen = front.2 }))
+said_run says before after status text ended called read h = ⊎_elim
+    (λ whole. subst (IsRun says before after) (sym whole.0) (written-run says before after status text called whole.1 read whole.2))
+    (λ front. subst (IsRun says before after) (sym front.0) (record { status = status; text = text; called_for = called; added = front.1; read_well = read; risen = front.2 }))
     h
 
-pub judged_run : (says : Judging) (before after : Outside) (what : Said) (bytes text : List ℕ) (status ended : Status) → says bytes what text → ConsumesAll byte_limit before.left after.left bytes → status ≡ status_of what
+pub judged_run : (says : Judging) (before after : Outside) (what : Said) (bytes text : List ℕ) (status ended : Status) → says bytes what text → ConsumesAll byte_limit before.left after.left bytes → NoReadFault before after → status ≡ status_of what
     → IsSaid before.written before.write_faults after.written after.write_faults status text ended → IsRun says before after ended
-judged_run says before after what bytes text status ended h all is told =
-    said_run says before after status text ended (subst (λ s. CallsFor says before after s text) (sym is) (judged_calls says before after what bytes text h all)) told
+judged_run says before after what bytes text status ended h all read is told =
+    said_run says before after status text ended (subst (λ s. CallsFor says before after s text) (sym is) (judged_calls says before after what bytes text h all)) read told
 
 -- the same, for a sink and a status that are these
 pub same_run : {K : Type 0} (says : Judging) (written : K → Option (List ℕ)) (faults : K → ℕ) (before : Outside) (left : Option (List ℕ)) (read_faults : ℕ) {now later : K} {status ended : Status}

@@ -1,7 +1,7 @@
 -- What a run of the program has done, seen from outside.
-use Rattle.std.specs.Prelude.{◌≡◌, ℕ, ◌<◌, ◌≤◌, ◌⊎◌, List, length, Option, codes}
+use Rattle.std.specs.Prelude.{◌≡◌, ℕ, ◌≤◌, ◌⊎◌, List, length, Option, codes}
 use Rattle.cap_io.specs.Faults.{HasRisen}
-use Rattle.cap_io.specs.Reading.{ConsumesSome, ConsumesAll}
+use Rattle.cap_io.specs.Reading.{ConsumesSome, ConsumesAll, IsPastLimit}
 use Rattle.cap_io.specs.Writing.{Adds, AddsFront}
 use Rattle.cap_top.specs.declared.outcome.Status.{Status}
 use Rattle.cap_top.specs.declared.outcome.Status.TheVariants.{Ok, Rejected, Usage, ReadFault, WriteFault, TooLong, BadScript, NoMemory}
@@ -20,12 +20,19 @@ pub record Outside : Type 0 where
   pub written : Option (List ℕ)
   pub write_faults : ℕ
 
+-- no call of the source failed, and no call of the sink failed: the counts of faults stay
+abbrev pub NoReadFault : Outside → Outside → Type 0
+NoReadFault before after = after.read_faults ≡ before.read_faults
+
+abbrev pub NoWriteFault : Outside → Outside → Type 0
+NoWriteFault before after = after.write_faults ≡ before.write_faults
+
 -- nothing was taken, and nothing was written
 abbrev pub TookNothing : Outside → Outside → Type 0
-TookNothing before after = (after.left ≡ before.left) × (after.read_faults ≡ before.read_faults)
+TookNothing before after = (after.left ≡ before.left) × NoReadFault before after
 
 abbrev pub WroteNothing : Outside → Outside → Type 0
-WroteNothing before after = (after.written ≡ before.written) × (after.write_faults ≡ before.write_faults)
+WroteNothing before after = (after.written ≡ before.written) × NoWriteFault before after
 
 -- the whole input was taken, and it is as P says
 pub record TookAll (before after : Outside) (P : List ℕ → Type 0) : Type 0 where
@@ -39,34 +46,37 @@ status_of said.Answered = Ok
 status_of said.Rejected = Rejected
 status_of said.Refused = BadScript
 
--- the run read this input, which calls for this status and this text: what the command says of the whole input, or that it is too long
+-- the run read this input, which calls for this status and this text: what the command says of the whole input, or that it is too long, where at most a piece more than the limit was taken
 abbrev pub CallsFor : Judging → Outside → Outside → Status → List ℕ → Type 0
 CallsFor says before after Ok text = TookAll before after (λ bytes. says bytes said.Answered text)
 CallsFor says before after Rejected text = TookAll before after (λ bytes. says bytes said.Rejected text)
 CallsFor says before after BadScript text = TookAll before after (λ bytes. says bytes said.Refused text)
-CallsFor says before after TooLong text = ConsumesSome before.left after.left (λ bytes. (byte_limit < length bytes) × (text ≡ codes "too long\n"))
+CallsFor says before after TooLong text = ConsumesSome before.left after.left (λ bytes. IsPastLimit byte_limit bytes × (text ≡ codes "too long\n"))
 CallsFor says before after Usage text = ⊥
 CallsFor says before after ReadFault text = ⊥
 CallsFor says before after WriteFault text = ⊥
 CallsFor says before after NoMemory text = ⊥
 
--- what the run called for was written whole
+-- what the run called for was written whole, and no call failed
 pub record Wrote (says : Judging) (before after : Outside) (status : Status) : Type 0 where
   pub text : List ℕ
   pub called_for : CallsFor says before after status text
   pub added : Adds before.written after.written text
+  pub read_well : NoReadFault before after
+  pub wrote_well : NoWriteFault before after
 
--- the sink failed when the front of what the run called for was written
+-- the sink failed when the front of what the run called for was written; the source did not
 pub record WroteFront (says : Judging) (before after : Outside) : Type 0 where
   pub status : Status
   pub text : List ℕ
   pub called_for : CallsFor says before after status text
   pub added : AddsFront before.written after.written text
+  pub read_well : NoReadFault before after
   pub risen : HasRisen before.write_faults after.write_faults
 
--- the text was written and this is the status; or the sink failed, and its front was
+-- the text was written, without a fault, and this is the status; or the sink failed, and its front was
 abbrev pub IsSaid : Option (List ℕ) → ℕ → Option (List ℕ) → ℕ → Status → List ℕ → Status → Type 0
-IsSaid before faults_before after faults_after status text said = ((said ≡ status) × Adds before after text)
+IsSaid before faults_before after faults_after status text said = ((said ≡ status) × Adds before after text × (faults_after ≡ faults_before))
     ⊎ ((said ≡ WriteFault) × AddsFront before after text × HasRisen faults_before faults_after)
 
 -- a fault of the source, before more than the limit was taken; and nothing was written
@@ -75,9 +85,10 @@ pub record ReadFailed (before after : Outside) : Type 0 where
   pub risen : HasRisen before.read_faults after.read_faults
   pub quiet : WroteNothing before after
 
--- want of memory: some bytes were taken, and nothing was written
+-- want of memory: no more than the limit was taken, and nothing was written; no call failed
 pub record RanOut (before after : Outside) : Type 0 where
-  pub taken : ConsumesSome before.left after.left (λ bytes. Unit {0})
+  pub taken : ConsumesSome before.left after.left (λ bytes. length bytes ≤ byte_limit)
+  pub read_well : NoReadFault before after
   pub quiet : WroteNothing before after
 
 -- what a command that judges its input does, by its status
@@ -107,7 +118,7 @@ usage_text = codes "usage: cap run | run --log | plain | plan | check | demo N\n
 
 -- what the program does where the words are none of its lists: it writes the usage line and reads nothing
 abbrev pub IsUsageRun : Outside → Outside → Status → Type 0
-IsUsageRun before after Usage = TookNothing before after × Adds before.written after.written usage_text
+IsUsageRun before after Usage = TookNothing before after × Adds before.written after.written usage_text × NoWriteFault before after
 IsUsageRun before after WriteFault = TookNothing before after × AddsFront before.written after.written usage_text × HasRisen before.write_faults after.write_faults
 IsUsageRun before after Ok = ⊥
 IsUsageRun before after BadScript = ⊥

@@ -1,4 +1,4 @@
-use Rattle.std.proofs.Common.{arith}
+use Rattle.std.proofs.Common.{◌∙◌}
 use Rattle.std.proofs.lemmas.Result.{err_from_is_err_and}
 use Rattle.cap_io.proofs.Adding.{Adds-take_more, AddsFront-take, within_more}
 use Rattle.cap_io.proofs.sinks.write_all.Goals as goal
@@ -12,5 +12,5 @@ pub loop-at-preserved : goal.loop-at-preserved
 loop-at-preserved g c = record {
   within = within_more c.loop-at.at c.in_ok-at.field-0 c.args.bytes.now c.loop-at.invariant.within c.in_ok-at.ensures.within;
   added = Adds-take_more _ _ _ c.args.bytes.now c.loop-at.at c.in_ok-at.field-0 c.loop-at.invariant.added c.in_ok-at.ensures.added;
-  counted = omega arith;
+  stays = c.in_ok-at.ensures.stays ∙ c.loop-at.invariant.stays;
 }
