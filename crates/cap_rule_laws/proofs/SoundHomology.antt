@@ -4,9 +4,9 @@ use Rattle.cap_laws.proofs.Calculus.{back, ◌⟫◌ as join}
 use Rattle.cap_laws.proofs.Opposite.{turned, opposite-linear}
 use Rattle.cap_laws.proofs.Textbook.{weak-from-kernel}
 use Rattle.cap_abstract.proofs.Exactness.{homology-from-kernel, part-from-zero, exact-from-weak-kernels, middle-of-exact}
-use Rattle.cap_rules.specs.Soundness.{Computes}
-use Rattle.cap_rules.proofs.SoundTyped.{computes-by}
-use Rattle.cap_rules.proofs.SoundBodies.{rule-55, rule-56, rule-57}
+use Rattle.cap_rule_laws.specs.Soundness.{Computes}
+use Rattle.cap_rule_laws.proofs.SoundTyped.{computes-by}
+use Rattle.cap_rule_laws.proofs.SoundBodies.{rule-55, rule-56, rule-57}
 
 module _ {Obj Mor : Type 0} {C : CategoryData Obj Mor} (L : IsLinear C) where
   infixr 5 ◌⟫◌

@@ -7,7 +7,7 @@ use Rattle.cap_laws.specs.Table.{IsCombination, Combination}
 use Rattle.cap_laws.specs.Scalars.{scalar_table, scalar_data, scalar as residue, value_of, scalar-of, scalar_linear}
 use Rattle.cap_laws.proofs.Calculus.{same, back, ◌⟫◌ as join, unit-right, compose-zero, negate-arrow, subtract-arrow}
 use Rattle.cap_laws.proofs.Isos.{iso-mono}
-use Rattle.cap_rules.proofs.SoundEnds.{from-source, to-target, own-arrow}
+use Rattle.cap_rule_laws.proofs.SoundEnds.{from-source, to-target, own-arrow}
 use Rattle.cap_ops.specs.Values.{object, morphism, truth, scalar, none}
 use Rattle.cap_ops.specs.Meaning.{Meaning, Cospan}
 

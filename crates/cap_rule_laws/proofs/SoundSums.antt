@@ -2,10 +2,10 @@
 use Rattle.cap_laws.specs.Linear.{CategoryData, IsLinear, Same}
 use Rattle.cap_laws.proofs.Calculus.{from-object, to-object, same, back, ◌⟫◌ as join, added, subtracted, equal-from-subtract, subtract-from-equal}
 use Rattle.cap_abstract.proofs.Additions.{subtract-negated, zero-subtract}
-use Rattle.cap_rules.specs.Soundness.{Computes}
-use Rattle.cap_rules.proofs.SoundBodies.{rule-1, rule-2, rule-3, rule-4, rule-5, rule-6, rule-7, rule-8}
-use Rattle.cap_rules.proofs.SoundTyped.{computes-by}
-use Rattle.cap_rules.proofs.SoundEnds.{own-arrow}
+use Rattle.cap_rule_laws.specs.Soundness.{Computes}
+use Rattle.cap_rule_laws.proofs.SoundBodies.{rule-1, rule-2, rule-3, rule-4, rule-5, rule-6, rule-7, rule-8}
+use Rattle.cap_rule_laws.proofs.SoundTyped.{computes-by}
+use Rattle.cap_rule_laws.proofs.SoundEnds.{own-arrow}
 
 module _ {Obj Mor : Type 0} {C : CategoryData Obj Mor} (L : IsLinear C) where
   infixr 5 ◌⟫◌

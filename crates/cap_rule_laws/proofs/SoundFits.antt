@@ -8,8 +8,8 @@ use Rattle.cap_ops.specs.declared.ends.Shape.TheVariants.{Object, Morphism, Trut
 use Rattle.cap_ops.specs.Ends.{Profile, profiles, profile_of, takes}
 use Rattle.cap_ops.specs.Values.{Value, object, morphism, scalar, none, HasEnds, HasShape, HaveShapes}
 use Rattle.cap_ops.specs.Meaning.{Line, takes_object, takes_morphism, takes_scalar, answers, MeansBy, lines, line_at, setting_of}
-use Rattle.cap_rules.specs.SoundnessFits.{AreData, MeaningFits}
-use Rattle.cap_rules.proofs.SoundTyped.{Each, each-gives}
+use Rattle.cap_rule_laws.specs.SoundnessFits.{AreData, MeaningFits}
+use Rattle.cap_rule_laws.proofs.SoundTyped.{Each, each-gives}
 
 module _ {Obj Mor : Type 0} (C : CategoryData Obj Mor) where
   -- the sort and ends of the arguments and of the answer, at some objects for the letters

@@ -3,14 +3,14 @@ use Rattle.std.proofs.Common.{◌≡◌, false}
 use Rattle.std.proofs.lemmas.List.Elements.{All-from_recursion}
 use Rattle.cap_laws.specs.Linear.{CategoryData, IsLinear}
 use Rattle.cap_laws.specs.Universal.{IsAbelian}
-use Rattle.cap_rules.specs.Soundness.{Sound, AllSound, AllUnmarkedSound}
+use Rattle.cap_rule_laws.specs.Soundness.{Sound, AllSound, AllUnmarkedSound}
 use Rattle.cap_rules.specs.Table.{rule_table}
-use Rattle.cap_rules.proofs.SoundSums.{sound-1, sound-2, sound-3, sound-4, sound-5, sound-6, sound-7, sound-8}
-use Rattle.cap_rules.proofs.SoundSquares.{sound-9, sound-10, sound-11, sound-12, sound-13, sound-14, sound-15, sound-16, sound-17, sound-18, sound-19, sound-20, sound-21, sound-22, sound-23, sound-24, sound-25, sound-26, sound-27, sound-28, sound-29, sound-30}
-use Rattle.cap_rules.proofs.SoundMonos.{sound-31, sound-32, sound-33, sound-34, sound-35, sound-36, sound-37, sound-39, sound-40, sound-41, sound-42, sound-43, sound-44, sound-45}
-use Rattle.cap_rules.proofs.SoundMaps.{sound-50, sound-51, sound-52, sound-53, sound-54, sound-58, sound-59}
-use Rattle.cap_rules.proofs.SoundHomology.{sound-55, sound-56, sound-57}
-use Rattle.cap_rules.proofs.SoundAbelian.{sound-38, sound-46, sound-47, sound-48, sound-49}
+use Rattle.cap_rule_laws.proofs.SoundSums.{sound-1, sound-2, sound-3, sound-4, sound-5, sound-6, sound-7, sound-8}
+use Rattle.cap_rule_laws.proofs.SoundSquares.{sound-9, sound-10, sound-11, sound-12, sound-13, sound-14, sound-15, sound-16, sound-17, sound-18, sound-19, sound-20, sound-21, sound-22, sound-23, sound-24, sound-25, sound-26, sound-27, sound-28, sound-29, sound-30}
+use Rattle.cap_rule_laws.proofs.SoundMonos.{sound-31, sound-32, sound-33, sound-34, sound-35, sound-36, sound-37, sound-39, sound-40, sound-41, sound-42, sound-43, sound-44, sound-45}
+use Rattle.cap_rule_laws.proofs.SoundMaps.{sound-50, sound-51, sound-52, sound-53, sound-54, sound-58, sound-59}
+use Rattle.cap_rule_laws.proofs.SoundHomology.{sound-55, sound-56, sound-57}
+use Rattle.cap_rule_laws.proofs.SoundAbelian.{sound-38, sound-46, sound-47, sound-48, sound-49}
 
 pub all-unmarked-sound : {Obj Mor : Type 0} {C : CategoryData Obj Mor} → IsLinear C → AllUnmarkedSound C rule_table
 all-unmarked-sound {C = C} L = All-from_recursion (λ rule. rule.cost.abelian ≡ false → Sound C rule) rule_table (

@@ -9,7 +9,7 @@ use Rattle.cap_terms.specs.declared.body.Var.{Var}
 use Rattle.cap_terms.specs.declared.body.Step.{Step}
 use Rattle.cap_terms.specs.declared.body.Step.TheVariants.{Call, Src, Tgt, Part, MinusOne, Exists, Both, When, Tuple}
 use Rattle.cap_terms.specs.declared.body.Body.{Body}
-use Rattle.cap_rules.specs.Soundness.{Means, Computes}
+use Rattle.cap_rule_laws.specs.Soundness.{Means, Computes}
 
 module _ {Obj Mor : Type 0} where
   -- what follows from each answer that meets the claim

@@ -5,10 +5,10 @@ use Rattle.cap_laws.proofs.Opposite.{turn, turned, turn-same, turned-same, oppos
 use Rattle.cap_laws.proofs.Textbook.{weak-from-kernel, mono-from-weak-kernel}
 use Rattle.cap_laws.proofs.Isos.{iso-from-splits, iso-splits-mono, iso-splits-epi}
 use Rattle.cap_abstract.proofs.Cancelling.{mono-from-pullback, pullback-of-mono, inverse-from-section, section-of-inverse}
-use Rattle.cap_rules.specs.Soundness.{Computes}
-use Rattle.cap_rules.proofs.SoundTyped.{computes-by}
-use Rattle.cap_rules.proofs.SoundBodies.{rule-31, rule-32, rule-33, rule-34, rule-35, rule-36, rule-37, rule-39, rule-40, rule-41, rule-42, rule-43, rule-44, rule-45}
-use Rattle.cap_rules.proofs.SoundEnds.{own-arrow}
+use Rattle.cap_rule_laws.specs.Soundness.{Computes}
+use Rattle.cap_rule_laws.proofs.SoundTyped.{computes-by}
+use Rattle.cap_rule_laws.proofs.SoundBodies.{rule-31, rule-32, rule-33, rule-34, rule-35, rule-36, rule-37, rule-39, rule-40, rule-41, rule-42, rule-43, rule-44, rule-45}
+use Rattle.cap_rule_laws.proofs.SoundEnds.{own-arrow}
 
 module _ {Obj Mor : Type 0} {C : CategoryData Obj Mor} (L : IsLinear C) where
   infixr 5 ◌⟫◌

@@ -8,10 +8,10 @@ use Rattle.cap_laws.proofs.Opposite.{turn, turned, turn-same, turned-same, oppos
 use Rattle.cap_laws.proofs.Textbook.{product-from-direct-sum, kernel-from-equalizer, equalizer-from-kernel, kernel-of-same, weak-from-kernel, pullback-from-kernel, pullback-of-same}
 use Rattle.cap_abstract.proofs.Biproducts.{direct-sum-from-product, pair-from-lift, lift-from-pair}
 use Rattle.cap_abstract.proofs.Squares.{equalizer-of-same, pullback-along-same, pullback-from-equalizer, kernel-from-pullback}
-use Rattle.cap_rules.specs.Soundness.{Computes}
-use Rattle.cap_rules.proofs.SoundBodies.{rule-9, rule-10, rule-11, rule-12, rule-13, rule-14, rule-15, rule-16, rule-17, rule-18, rule-19, rule-20, rule-21, rule-22, rule-23, rule-24, rule-25, rule-26, rule-27, rule-28, rule-29, rule-30}
-use Rattle.cap_rules.proofs.SoundTyped.{computes-by}
-use Rattle.cap_rules.proofs.SoundEnds.{own-arrow, own-cospan, own-span, own-cones, own-cocones}
+use Rattle.cap_rule_laws.specs.Soundness.{Computes}
+use Rattle.cap_rule_laws.proofs.SoundBodies.{rule-9, rule-10, rule-11, rule-12, rule-13, rule-14, rule-15, rule-16, rule-17, rule-18, rule-19, rule-20, rule-21, rule-22, rule-23, rule-24, rule-25, rule-26, rule-27, rule-28, rule-29, rule-30}
+use Rattle.cap_rule_laws.proofs.SoundTyped.{computes-by}
+use Rattle.cap_rule_laws.proofs.SoundEnds.{own-arrow, own-cospan, own-span, own-cones, own-cocones}
 
 module _ {Obj Mor : Type 0} {C : CategoryData Obj Mor} (L : IsLinear C) where
   infixr 5 ◌⟫◌

@@ -6,9 +6,9 @@ use Rattle.cap_laws.proofs.Opposite.{turn, turned, turn-same, turned-same, oppos
 use Rattle.cap_laws.proofs.Isos.{iso-mono, iso-epi}
 use Rattle.cap_abstract.proofs.Cancelling.{iso-from-mono-epi}
 use Rattle.cap_abstract.proofs.Images.{image-from-kernel, coimage-from-image}
-use Rattle.cap_rules.specs.Soundness.{Computes}
-use Rattle.cap_rules.proofs.SoundTyped.{computes-by}
-use Rattle.cap_rules.proofs.SoundBodies.{rule-38, rule-46, rule-47, rule-48, rule-49}
+use Rattle.cap_rule_laws.specs.Soundness.{Computes}
+use Rattle.cap_rule_laws.proofs.SoundTyped.{computes-by}
+use Rattle.cap_rule_laws.proofs.SoundBodies.{rule-38, rule-46, rule-47, rule-48, rule-49}
 
 module _ {Obj Mor : Type 0} {C : CategoryData Obj Mor} (L : IsLinear C) (A : IsAbelian C) where
   infixr 5 ◌⟫◌

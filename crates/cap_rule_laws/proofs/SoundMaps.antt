@@ -5,10 +5,10 @@ use Rattle.cap_laws.proofs.Opposite.{turn, turned, turn-same, turned-same, oppos
 use Rattle.cap_abstract.proofs.Biproducts.{swapped-direct-sum}
 use Rattle.cap_abstract.proofs.Squares.{pullback-along-same, equalizer-from-pullback}
 use Rattle.cap_abstract.proofs.Images.{union-from-image}
-use Rattle.cap_rules.specs.Soundness.{Computes}
-use Rattle.cap_rules.proofs.SoundTyped.{computes-by}
-use Rattle.cap_rules.proofs.SoundBodies.{rule-50, rule-51, rule-52, rule-53, rule-54, rule-58, rule-59}
-use Rattle.cap_rules.proofs.SoundEnds.{own-parallel, own-cospan}
+use Rattle.cap_rule_laws.specs.Soundness.{Computes}
+use Rattle.cap_rule_laws.proofs.SoundTyped.{computes-by}
+use Rattle.cap_rule_laws.proofs.SoundBodies.{rule-50, rule-51, rule-52, rule-53, rule-54, rule-58, rule-59}
+use Rattle.cap_rule_laws.proofs.SoundEnds.{own-parallel, own-cospan}
 
 module _ {Obj Mor : Type 0} {C : CategoryData Obj Mor} (L : IsLinear C) where
   infixr 5 ◌⟫◌

@@ -1,6 +1,6 @@
 // The soundness of the rules. These functions run nothing: a caller learns the law from the contract.
-ghost use Rattle.cap_rules.specs.Soundness.{AllSound, AllUnmarkedSound};
-ghost use Rattle.cap_rules.specs.SoundnessFits.{MeaningFits};
+ghost use Rattle.cap_rule_laws.specs.Soundness.{AllSound, AllUnmarkedSound};
+ghost use Rattle.cap_rule_laws.specs.SoundnessFits.{MeaningFits};
 ghost use Rattle.cap_rules.specs.Table.{rule_table};
 
 use cap_laws::{Abelian, Cat, Preadditive};
