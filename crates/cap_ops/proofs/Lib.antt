@@ -7,6 +7,7 @@ pub mod Scanned
 pub mod Telling
 pub mod Once
 pub mod NewObjects
+pub mod Short
 mod Table
 pub mod DerivationsBounds
 pub mod DerivationsTrees
