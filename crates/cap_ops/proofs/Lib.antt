@@ -4,6 +4,10 @@ pub mod Places
 pub mod Shapes
 pub mod Scans
 pub mod Scanned
+pub mod Telling
+pub mod Once
+pub mod NewObjects
+pub mod Short
 mod Table
 pub mod DerivationsBounds
 pub mod DerivationsTrees
