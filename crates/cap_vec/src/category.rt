@@ -8,7 +8,8 @@ use cap_laws::{Cat, CatFault, Preadditive};
 use cap_matrix::Matrix;
 use std::alloc::Global;
 
-/// The category of matrices over a prime field: objects are dimensions of at most 2,048, and a morphism from m to n is a matrix of m rows and n columns.
+/// The category of matrices over a prime field: the objects are dimensions, every `u32`, and a morphism from m to n is a matrix of m rows and n columns.
+/// A dimension past 2,048 is an object too: a call that meets a matrix of such a size answers `TooLarge`.
 #[derive(Debug, Drop)]
 pub struct VecCat {
     pub(crate) field: Field,
@@ -37,10 +38,6 @@ impl Cat for VecCat {
     ghost use Rattle.cap_vec.specs.Sizes.{IsSizeOf};
 
     ghost category = { λ c. vec_data c.field };
-
-    ghost object_meets = { λ c a s. ⊥ };
-
-    ghost morphism_meets = { λ c f s. IsSizeOf f s };
 
     ghost identity_meets = { λ c a s. IsSizeOf (unit_of c.field a) s };
 

@@ -4,14 +4,14 @@ ghost use Rattle.cap_field.specs.Residue.{is_tabled};
 ghost use Rattle.cap_matrix.specs.Buffer.{matrix_of};
 ghost use Rattle.cap_matrix.specs.Grid.{IsMatrix};
 ghost use Rattle.cap_laws.specs.Answers.{Answers};
-ghost use Rattle.cap_vec_laws.proofs.Members.{lift_of, colift_of};
+ghost use Rattle.cap_vec.specs.Members.{lift_of, colift_of};
 ghost use Rattle.cap_vec.specs.Sizes.{IsSizeOf, IsSizeInLift, IsSizeInColift};
 ghost use Rattle.cap_vec.specs.Solved.{IsRowSolved, AreRowsSolved};
 
 use crate::morphism::{VecMor, transposed};
 use cap_field::Field;
 use cap_laws::CatFault;
-use cap_matrix::Matrix;
+use cap_matrix::{Matrix, fits};
 use cap_names::Items;
 use cap_reduce::{Solved, solve};
 use std::alloc::Global;
@@ -74,7 +74,7 @@ pub(crate) fn from_rows(
     requires residues { (k : ℕ) → k < rows * cols → slice_index cells k < field }
     ensures { Answers (IsSizeOf (matrix_of field rows cols cells)) (λ x. x ≡ matrix_of field rows cols cells) result }
 {
-    if rows > 2048 || cols > 2048 || rows * cols > 1_048_576 {
+    if !fits(rows, cols) {
         return Err(CatFault::TooLarge { rows, cols });
     }
     Ok(VecMor::new(Matrix::from_cells(field, rows, cols, cells.into_vec())))
