@@ -1,7 +1,9 @@
 // Worked examples.
 ghost use Rattle.std.specs.Prelude.{◌≡◌};
 
-use crate::{Items, Solved, greedy, null_rows, reduce_in_place, rref, solve};
+use crate::{
+    Items, Solved, SolvedRows, greedy, null_rows, reduce_in_place, rref, solve, solve_rows,
+};
 use cap_field::Field;
 use cap_matrix::{Matrix, MatrixFault, TooLarge};
 use std::alloc::{AllocError, Global};
@@ -209,6 +211,89 @@ fn solutions_and_obstructions(rt: HostRuntime) -> Result<(), Fail> {
         entries(alloc, &solve(alloc, &none, &[250])?)?.as_slice(),
         [1000, 1].as_slice()
     );
+    Ok(())
+}
+
+/// Systems with one matrix, and their solutions or the first that has none.
+#[derive(Clone, Copy)]
+struct Systems<'a> {
+    prime: u32,
+    rows: u32,
+    cols: u32,
+    cells: &'a [u16],
+    count: u32,
+    values: &'a [u16],
+    solutions: Result<&'a [u16], u32>,
+}
+
+#[test]
+fn many_systems_at_once(rt: HostRuntime) -> Result<(), Fail> {
+    let alloc = rt.alloc();
+    let cases = [
+        Systems {
+            prime: 5,
+            rows: 2,
+            cols: 2,
+            cells: &[1, 2, 2, 4],
+            count: 3,
+            values: &[2, 4, 0, 0, 3, 1],
+            solutions: Ok(&[2, 0, 0, 0, 3, 0]),
+        },
+        Systems {
+            prime: 5,
+            rows: 2,
+            cols: 2,
+            cells: &[1, 2, 2, 4],
+            count: 3,
+            values: &[2, 4, 1, 0, 0, 1],
+            solutions: Err(1),
+        },
+        Systems {
+            prime: 3,
+            rows: 4,
+            cols: 2,
+            cells: &[1, 2, 2, 1, 0, 1, 1, 0],
+            count: 2,
+            values: &[1, 1, 0, 2],
+            solutions: Ok(&[1, 0, 2, 0, 0, 0, 2, 0]),
+        },
+        Systems {
+            prime: 101,
+            rows: 3,
+            cols: 2,
+            cells: &[0, 0, 7, 100, 14, 99],
+            count: 0,
+            values: &[],
+            solutions: Ok(&[]),
+        },
+        Systems {
+            prime: 251,
+            rows: 0,
+            cols: 1,
+            cells: &[],
+            count: 2,
+            values: &[0, 250],
+            solutions: Err(1),
+        },
+        Systems {
+            prime: 2,
+            rows: 3,
+            cols: 0,
+            cells: &[],
+            count: 1,
+            values: &[],
+            solutions: Ok(&[0, 0, 0]),
+        },
+    ];
+    for case in &cases {
+        let m = matrix(&rt, alloc, case.prime, case.rows, case.cols, case.cells);
+        let t = matrix(&rt, alloc, case.prime, case.count, case.cols, case.values);
+        match (solve_rows(alloc, &m, &t)?, case.solutions) {
+            (SolvedRows::All(xs), Ok(wanted)) => assert_eq!(rt; xs.as_slice(), wanted),
+            (SolvedRows::Unsolved(i), Err(wanted)) => assert_eq!(rt; i, wanted),
+            _ => assert!(rt; false, "solved or not"),
+        }
+    }
     Ok(())
 }
 
