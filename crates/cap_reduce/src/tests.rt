@@ -230,7 +230,7 @@ struct Systems<'a> {
 fn answers(alloc: Global, s: &SolvedRows) -> Result<Vec<u16>, AllocError> {
     match s {
         SolvedRows::All(xs) => xs.as_slice().to_vec(alloc),
-        SolvedRows::Unsolved(i) => vec![in alloc; 1000, (*i % 1000) as u16],
+        SolvedRows::Unsolved(i) => Ok(vec![in alloc; 1000, (*i % 1000) as u16]?),
     }
 }
 
