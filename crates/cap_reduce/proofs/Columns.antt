@@ -42,7 +42,7 @@ lead_is_new p r m u lead y k big h lt e =
 abbrev pub factor : (ℕ → ℕ → ℕ) → (ℕ → ℕ) → ℕ → ℕ → ℕ → ℕ
 factor u lead r d c = ⊎_elim (λ f. u f.0 d) (λ none. 0) (find_among lead r c)
 
-factor_at_lead_is : (p r m : ℕ) (u : ℕ → ℕ → ℕ) (lead : ℕ → ℕ) (d i : ℕ) → IsReducedBy p r m u lead → i < r → factor u lead r d (lead i) ≡ u i d
+pub factor_at_lead_is : (p r m : ℕ) (u : ℕ → ℕ → ℕ) (lead : ℕ → ℕ) (d i : ℕ) → IsReducedBy p r m u lead → i < r → factor u lead r d (lead i) ≡ u i d
 factor_at_lead_is p r m u lead d i h lt =
     elim (find_among lead r (lead i)) as (λ w. ⊎_elim (λ f. u f.0 d) (λ none. 0) w ≡ u i d) [
       | inl f ↦ ap (λ q. u q d) (⊎_elim (λ e. e)
@@ -50,6 +50,10 @@ factor_at_lead_is p r m u lead d i h lt =
           (cases_order f.0 i))
       | inr none ↦ absurd (none i lt refl)
     ]
+
+pub factor_off_leads : (u : ℕ → ℕ → ℕ) (lead : ℕ → ℕ) (r d c : ℕ) → ((k : ℕ) → k < r → lead k ≢ c) → factor u lead r d c ≡ 0
+factor_off_leads u lead r d c none =
+    elim (find_among lead r c) as (λ w. ⊎_elim (λ f. u f.0 d) (λ none. 0) w ≡ 0) [ inl f ↦ absurd (none f.0 f.1 f.2) | inr g ↦ refl ]
 
 factor_elsewhere : (p r m : ℕ) (u : ℕ → ℕ → ℕ) (lead : ℕ → ℕ) (d i c : ℕ) → IsReducedBy p r m u lead → i < r → c ≢ lead i → factor u lead r d c * u i c ≡ 0
 factor_elsewhere p r m u lead d i c h lt ne =

@@ -64,9 +64,26 @@ pub record IsNullColumn (p r n : ℕ) (u : ℕ → ℕ → ℕ) (place v : ℕ �
   pub column : (c : ℕ) → c < n → slice_index y c ≡ null_value p r u place f c
   pub some : total n (λ c. v c * slice_index y c) % p ≢ 0
 
--- t holds the transpose of m, of n rows and w columns, with v as one more column
-pub record IsSystemTable (n w : ℕ) (m : Grid) (v t : List ℕ) : Type 0 where
+-- t holds the transpose of m, of n rows and w columns, with the first k of some rows, which stand in a flat buffer, as further columns
+pub record IsSystemTable (n w k : ℕ) (m : Grid) (rows t : List ℕ) : Type 0 where
   pub tabled : is_tabled m.prime ≡ true
-  pub long : length t ≡ w * (n + 1)
-  pub turned : (j i : ℕ) → j < w → i < n → cell t (n + 1) j i ≡ entry m.entries i j
-  pub last : (j : ℕ) → j < w → cell t (n + 1) j n ≡ slice_index v j
+  pub long : length t ≡ w * (n + k)
+  pub turned : (j i : ℕ) → j < w → i < n → cell t (n + k) j i ≡ entry m.entries i j
+  pub beside : (j i : ℕ) → j < w → i < k → cell t (n + k) j (n + i) ≡ cell rows w i j
+
+-- the columns of u from a to b are 0 in the rows from r to n
+abbrev pub IsNoneLeft : ℕ → ℕ → ℕ → ℕ → (ℕ → ℕ → ℕ) → Type 0
+IsNoneLeft r n a b u = (c i : ℕ) → a ≤ c → c < b → r ≤ i → i < n → u i c ≡ 0
+
+-- column c is the first of them that is not
+pub record IsFirstLeft (r n a b : ℕ) (u : ℕ → ℕ → ℕ) (c : ℕ) : Type 0 where
+  pub from : a ≤ c
+  pub inside : c < b
+  pub before : IsNoneLeft r n a c u
+  pub some : (i : ℕ) × (r ≤ i) × (i < n) × (u i c ≢ 0)
+
+-- xs holds k rows of n cells: row q has the entries of column n + q of u at the leads, and 0 elsewhere
+pub record AreReadOff (r n k : ℕ) (u : ℕ → ℕ → ℕ) (lead : ℕ → ℕ) (xs : List ℕ) : Type 0 where
+  pub long : length xs ≡ k * n
+  pub on_leads : (q a : ℕ) → q < k → a < r → cell xs n q (lead a) ≡ u a (n + q)
+  pub elsewhere : (q i : ℕ) → q < k → i < n → ((a : ℕ) → a < r → lead a ≢ i) → cell xs n q i ≡ 0

@@ -8,7 +8,13 @@ use cap_field::{Field, reduced};
 
 /// The first row from `from` on whose entry in column `col` is not 0.
 #[tactic(auto, using(std::proofs::lemmas::Nat::rows))]
-fn pivot_row(cells: &[u16], rows: usize, cols: usize, from: usize, col: usize) -> Option<usize>
+pub(crate) fn pivot_row(
+    cells: &[u16],
+    rows: usize,
+    cols: usize,
+    from: usize,
+    col: usize,
+) -> Option<usize>
     requires size { length cells.now ≡ rows * cols }
     requires column { col < cols }
     ensures { MatchOption result ((i : ℕ) → from ≤ i → i < rows → cell cells.now cols i col ≡ 0)
@@ -204,25 +210,46 @@ fn clear_next(
     }
 }
 
-/// Reduces the rows of a flat buffer, with space for one row, and answers how many are not 0.
+/// Reduces the rows of a flat buffer in its first `front` columns, with space for one row, and answers how many are not 0 there.
 fn reduce_with(
     cells: &mut [u16],
     space: &mut [u16],
     field: Field,
     rows: usize,
     cols: usize,
+    front: usize,
 ) -> usize
     requires size { length cells.old ≡ rows * cols }
     requires width { length space.old ≡ cols }
+    requires within { front ≤ cols }
     requires residues { (i c : ℕ) → i < rows → c < cols → cell cells.old cols i c < field }
     ensures span { IsSameSpan field rows cols (cell cells.old cols) (cell cells.new cols) }
-    ensures cleared { (lead : ℕ → ℕ) × IsCleared field rows cols (cell cells.new cols) lead result cols }
+    ensures cleared { (lead : ℕ → ℕ) × IsCleared field rows cols (cell cells.new cols) lead result front }
 {
     let mut done = 0;
-    for col in 0..cols {
+    for col in 0..front {
         done = clear_next(cells, space, field, rows, cols, done, col);
     }
     done
+}
+
+/// Reduces the rows of a flat buffer in its first `front` columns, and answers how many are not 0 there.
+pub(crate) fn reduce_front(
+    cells: &mut [u16],
+    field: Field,
+    rows: usize,
+    cols: usize,
+    front: usize,
+) -> usize
+    requires size { length cells.old ≡ rows * cols }
+    requires narrow { cols ≤ 4096 }
+    requires within { front ≤ cols }
+    requires residues { (i c : ℕ) → i < rows → c < cols → cell cells.old cols i c < field }
+    ensures span { IsSameSpan field rows cols (cell cells.old cols) (cell cells.new cols) }
+    ensures cleared { (lead : ℕ → ℕ) × IsCleared field rows cols (cell cells.new cols) lead result front }
+{
+    let mut space = [0u16; 4096];
+    reduce_with(cells, &mut space[..cols], field, rows, cols, front)
 }
 
 /// Reduces the rows of a flat buffer, and answers how many are not 0.
@@ -233,6 +260,5 @@ pub(crate) fn reduce_flat(cells: &mut [u16], field: Field, rows: usize, cols: us
     ensures span { IsSameSpan field rows cols (cell cells.old cols) (cell cells.new cols) }
     ensures cleared { (lead : ℕ → ℕ) × IsCleared field rows cols (cell cells.new cols) lead result cols }
 {
-    let mut space = [0u16; 4096];
-    reduce_with(cells, &mut space[..cols], field, rows, cols)
+    reduce_front(cells, field, rows, cols, cols)
 }

@@ -19,4 +19,4 @@ pub use laws::{
     law_rank_and_null_rows, law_reduced_form_exists, law_solution_exists, law_solved_or_obstructed,
 };
 pub use nulls::null_rows;
-pub use solving::{Rows, Solved, greedy, solve};
+pub use solving::{Rows, Solved, SolvedRows, greedy, solve, solve_rows};

@@ -143,7 +143,7 @@ fn null_rows_of_reduced(
     let (r, n) = (rank as usize, cols as usize);
     let place = &mut places[..n];
     let free = &mut frees[..n];
-    scan_leads(cells, r, n, place, free);
+    scan_leads(cells, r, n, n, place, free);
     let mut out = Matrix::zero(alloc, field, cols - rank, cols)?.into_cells();
     write_null_rows(&mut out, cells, r, n, place, free, field.prime() as u16);
     Ok(Matrix::from_cells(field, cols - rank, cols, out))

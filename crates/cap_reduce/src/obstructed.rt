@@ -105,7 +105,7 @@ pub(crate) fn obstruction(
     let mut places = [0u16; 2048];
     let mut frees = [0u16; 2048];
     let place = &mut places[..cols];
-    scan_leads(&cells, rank, cols, place, &mut frees[..cols]);
+    scan_leads(&cells, rank, cols, cols, place, &mut frees[..cols]);
     let mut y = vec![in alloc; 0u16; cols]?;
     match find_obstruction(&mut y, &cells, rank, cols, place, v, field.prime() as u16) {
         Some(_) => Ok(Some(Items::new(y))),

@@ -1,7 +1,9 @@
 // Worked examples.
 ghost use Rattle.std.specs.Prelude.{◌≡◌};
 
-use crate::{Items, Solved, greedy, null_rows, reduce_in_place, rref, solve};
+use crate::{
+    Items, Solved, SolvedRows, greedy, null_rows, reduce_in_place, rref, solve, solve_rows,
+};
 use cap_field::Field;
 use cap_matrix::{Matrix, MatrixFault, TooLarge};
 use std::alloc::{AllocError, Global};
@@ -209,6 +211,90 @@ fn solutions_and_obstructions(rt: HostRuntime) -> Result<(), Fail> {
         entries(alloc, &solve(alloc, &none, &[250])?)?.as_slice(),
         [1000, 1].as_slice()
     );
+    Ok(())
+}
+
+/// Systems with one matrix, and their solutions or the number of the first that has none after the number 1000.
+#[derive(Clone, Copy)]
+struct Systems<'a> {
+    prime: u32,
+    rows: u32,
+    cols: u32,
+    cells: &'a [u16],
+    count: u32,
+    values: &'a [u16],
+    answer: &'a [u16],
+}
+
+/// The solutions, or the number of a row after the number 1000.
+fn answers(alloc: Global, s: &SolvedRows) -> Result<Vec<u16>, AllocError> {
+    match s {
+        SolvedRows::All(xs) => xs.as_slice().to_vec(alloc),
+        SolvedRows::Unsolved(i) => Ok(vec![in alloc; 1000, (*i % 1000) as u16]?),
+    }
+}
+
+/// Compares the answer to systems with what is expected.
+fn compare_systems(rt: &impl Abort, alloc: Global, case: &Systems) -> Result<(), Fail> {
+    let m = matrix(rt, alloc, case.prime, case.rows, case.cols, case.cells);
+    let t = matrix(rt, alloc, case.prime, case.count, case.cols, case.values);
+    let found = answers(alloc, &solve_rows(alloc, &m, &t)?)?;
+    assert_eq!(rt; found.as_slice(), case.answer);
+    Ok(())
+}
+
+#[test]
+fn many_systems_at_once(rt: HostRuntime) -> Result<(), Fail> {
+    let cases = [
+        Systems {
+            prime: 5,
+            rows: 2,
+            cols: 2,
+            cells: &[1, 2, 2, 4],
+            count: 3,
+            values: &[2, 4, 0, 0, 3, 1],
+            answer: &[2, 0, 0, 0, 3, 0],
+        },
+        Systems {
+            prime: 5,
+            rows: 2,
+            cols: 2,
+            cells: &[1, 2, 2, 4],
+            count: 3,
+            values: &[2, 4, 1, 0, 0, 1],
+            answer: &[1000, 1],
+        },
+        Systems {
+            prime: 3,
+            rows: 4,
+            cols: 2,
+            cells: &[1, 2, 2, 1, 0, 1, 1, 0],
+            count: 2,
+            values: &[1, 1, 0, 2],
+            answer: &[1, 0, 2, 0, 0, 0, 2, 0],
+        },
+        Systems {
+            prime: 101,
+            rows: 3,
+            cols: 2,
+            cells: &[0, 0, 7, 100, 14, 99],
+            count: 0,
+            values: &[],
+            answer: &[],
+        },
+        Systems {
+            prime: 2,
+            rows: 3,
+            cols: 0,
+            cells: &[],
+            count: 1,
+            values: &[],
+            answer: &[0, 0, 0],
+        },
+    ];
+    for case in &cases {
+        compare_systems(&rt, rt.alloc(), case)?;
+    }
     Ok(())
 }
 

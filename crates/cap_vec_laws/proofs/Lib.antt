@@ -10,3 +10,5 @@ pub mod Lifts
 pub mod RowLifts
 pub mod Members
 pub mod Systems
+pub mod SystemEntries
+pub mod RowEquations

@@ -29,11 +29,11 @@ zero_or_more : (b : ℕ) → (b ≡ 0) ⊎ (0 < b)
 zero_or_more zero = inl refl
 zero_or_more (suc b) = inr (omega arith)
 
-some_below : (k a b : ℕ) → k < a * b → 0 < b
+pub some_below : (k a b : ℕ) → k < a * b → 0 < b
 some_below k a b lt = ⊎_elim (λ z. absurd (let e : a * b ≡ 0 = ap (λ y. a * y) z ∙ mul-zero a in omega arith)) (λ pos. pos) (zero_or_more b)
 
 -- the quotient and the remainder of a place
-place_parts : (m a b : ℕ) → b < m → ((a * m + b) / m ≡ a) × ((a * m + b) % m ≡ b)
+pub place_parts : (m a b : ℕ) → b < m → ((a * m + b) / m ≡ a) × ((a * m + b) % m ≡ b)
 place_parts m a b lt =
     let k = a * m + b in
     let s = same_from_place (k / m) (k % m) a b m (mod_below k m (let o : 0 < m = omega arith in o)) lt (div-add-mod' k m) in

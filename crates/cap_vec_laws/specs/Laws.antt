@@ -8,6 +8,7 @@ use Rattle.cap_laws.specs.Linear.{IsLinear}
 use Rattle.cap_laws.specs.Universal.{IsKernel, IsCokernel, IsLift, IsColift, IsAbelian, IsPullback, IsPushout}
 use Rattle.cap_laws.specs.Systems.{IsSystem, AnswersSystem}
 use Rattle.cap_laws.specs.declared.values.System.{System}
+use Rattle.cap_vec_laws.specs.RowEquation.{IsSystemMatrix, IsValuesRow, IsCanonicalAnswer}
 use Rattle.cap_vec_laws.specs.Vec.{map_option, vec_data, first_columns, last_columns, stacked_difference}
 
 -- matrices modulo a prime of the table are a linear category
@@ -97,10 +98,35 @@ pub record HasMembers (p : ℕ) : Type 0 where
 abbrev pub MembersExist : Type 0
 MembersExist = (p : ℕ) → is_tabled p ≡ true → HasMembers p
 
--- a function of data that answers each system of linear equations between matrices: a solution, or none exactly where there is none
+-- a system is one row equation: there is one matrix and one row of values that have its blocks
+pub record HasRowEquation (p : ℕ) (s : System ℕ Grid) : Type 0 where
+  pub matrix : Grid
+  pub values : List ℕ
+  pub is_matrix : IsSystemMatrix p s.unknowns s.equations matrix
+  pub is_values : IsValuesRow s.equations values
+  pub one_matrix : (m : Grid) → IsSystemMatrix p s.unknowns s.equations m → m ≡ matrix
+  pub one_row : (v : List ℕ) → IsValuesRow s.equations v → v ≡ values
+
+abbrev pub RowEquationExists : Type 0
+RowEquationExists = (p : ℕ) → is_tabled p ≡ true → (s : System ℕ Grid) → IsSystem (vec_data p) s → HasRowEquation p s
+
+-- its canonical solution, cut into the unknowns, answers the system
+abbrev pub CanonicalAnswers : Type 0
+CanonicalAnswers = (p : ℕ) → is_tabled p ≡ true → (s : System ℕ Grid) → IsSystem (vec_data p) s
+    → (m : Grid) (v : List ℕ) → IsSystemMatrix p s.unknowns s.equations m → IsValuesRow s.equations v
+    → (o : Option (List Grid)) → IsCanonicalAnswer p s.unknowns m v o → AnswersSystem (vec_data p) s o
+
+-- and there is one canonical answer
+abbrev pub OneCanonicalAnswer : Type 0
+OneCanonicalAnswer = (p : ℕ) → is_tabled p ≡ true → (us : List (ℕ × ℕ)) (m : Grid) (v : List ℕ) → IsMatrix p m
+    → (o q : Option (List Grid)) → IsCanonicalAnswer p us m v o → IsCanonicalAnswer p us m v q → o ≡ q
+
+-- a function of data that answers each system of linear equations between matrices by its canonical solution: a solution, or none exactly where there is none
 pub record HasSolver (p : ℕ) : Type 0 where
   pub solution : System ℕ Grid → Option (List Grid)
   pub solves : (s : System ℕ Grid) → IsSystem (vec_data p) s → AnswersSystem (vec_data p) s (solution s)
+  pub canonical : (s : System ℕ Grid) → IsSystem (vec_data p) s → (m : Grid) (v : List ℕ) → IsSystemMatrix p s.unknowns s.equations m → IsValuesRow s.equations v
+      → IsCanonicalAnswer p s.unknowns m v (solution s)
 
 abbrev pub SystemsSolved : Type 0
 SystemsSolved = (p : ℕ) → is_tabled p ≡ true → HasSolver p

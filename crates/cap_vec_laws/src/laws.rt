@@ -1,5 +1,5 @@
 // The laws, each a call that does nothing.
-ghost use Rattle.cap_vec_laws.specs.Laws.{VecLinear, VecAbelian, KernelInPlainMatrices, NullBasisIsKernel, NullBasisIsCokernel, PullbackByNullBasis, PushoutByNullBasis, LiftByRows, NoLiftByRow, RowLiftExists, RowLiftIsLift, OneRowLift, ColiftByTransposes, MembersExist, SystemsSolved};
+ghost use Rattle.cap_vec_laws.specs.Laws.{VecLinear, VecAbelian, KernelInPlainMatrices, NullBasisIsKernel, NullBasisIsCokernel, PullbackByNullBasis, PushoutByNullBasis, LiftByRows, NoLiftByRow, RowLiftExists, RowLiftIsLift, OneRowLift, ColiftByTransposes, MembersExist, RowEquationExists, CanonicalAnswers, OneCanonicalAnswer, SystemsSolved};
 
 /// Matrices modulo a prime of the table are a linear category.
 pub fn law_vec_linear()
@@ -71,7 +71,22 @@ pub fn law_members_exist()
     ensures { MembersExist }
 {}
 
-/// Each system of linear equations between matrices is solved or refuted.
+/// Each system of linear equations between matrices has one matrix and one row of values, with the blocks of its terms.
+pub fn law_row_equation_exists()
+    ensures { RowEquationExists }
+{}
+
+/// The canonical solution of that row equation, cut into the unknowns, answers the system.
+pub fn law_canonical_answers()
+    ensures { CanonicalAnswers }
+{}
+
+/// There is one canonical answer.
+pub fn law_one_canonical_answer()
+    ensures { OneCanonicalAnswer }
+{}
+
+/// A function of data answers each system of linear equations between matrices, by its canonical solution.
 pub fn law_systems_solved()
     ensures { SystemsSolved }
 {}

@@ -8,7 +8,7 @@ pub loop-c-preserved : goal.loop-c-preserved
 loop-c-preserved c =
     let a = c.loop-c.met in
     let here = c.loop-c.c in
-    let u = cell c.args.cells.now c.args.cols in
+    let u = cell c.args.cells.now c.args.width in
     elim c.if-met-rank.branch [
       | then-met-rank+then-cells-met-ne0 w ↦ rw (w.place-is, w.free-is, w.met-is) (record {
         met = omega arith;
@@ -30,5 +30,5 @@ loop-c-preserved c =
 
 pub returns : goal.returns
 returns c = λ p lead R.
-    scanned_end p c.args.rank c.args.cols (cell c.args.cells.now c.args.cols) lead (at c.loop-c.place) (at c.loop-c.free) c.loop-c.met c.loop-c.c R (omega arith)
+    scanned_end p c.args.rank c.args.cols (cell c.args.cells.now c.args.width) lead (at c.loop-c.place) (at c.loop-c.free) c.loop-c.met c.loop-c.c R (omega arith)
     (c.loop-c.invariant.scanned p lead R)
