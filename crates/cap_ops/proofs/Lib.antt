@@ -4,6 +4,7 @@ pub mod Places
 pub mod Shapes
 pub mod Scans
 pub mod Scanned
+pub mod Telling
 mod Table
 pub mod DerivationsBounds
 pub mod DerivationsTrees

@@ -1,2 +1,3 @@
 pub mod TruePlans
 pub mod RunLaws
+pub mod Puts
