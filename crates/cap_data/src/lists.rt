@@ -1,10 +1,17 @@
 // Lists of coefficients and of matrices: compared, counted and copied.
-ghost use Rattle.std.specs.Prelude.{◌≡◌, ◌↔◌, ◌≤◌, IsTrue, IfOk, length};
-ghost use Rattle.cap_data.specs.Cells.{coefficients, cells_of_all};
+ghost use Rattle.std.specs.Prelude.{◌≡◌, ◌↔◌, ◌*◌, ◌≤◌, IsTrue, IfOk, length};
+ghost use Rattle.cap_data.specs.Cells.{coefficients, cells_of, cells_of_all};
 
 use cap_matrix::Matrix;
 use cap_names::{Items, NoMemory};
 use std::alloc::Global;
+
+/// Whether the coefficients of two entries are equal.
+fn same_entry(a: &Items<u16>, b: &Items<u16>) -> bool
+    ensures { IsTrue result ↔ (a.now ≡ b.now) }
+{
+    a.as_slice() == b.as_slice()
+}
 
 /// Whether two lists of coefficients are equal.
 pub(crate) fn same_entries(a: &[Items<u16>], b: &[Items<u16>]) -> bool
@@ -14,7 +21,7 @@ pub(crate) fn same_entries(a: &[Items<u16>], b: &[Items<u16>]) -> bool
         return false;
     }
     for i in 0..a.len() {
-        if a[i].as_slice() != b[i].as_slice() {
+        if !same_entry(&a[i], &b[i]) {
             return false;
         }
     }
@@ -48,6 +55,14 @@ pub(crate) fn count_coefficients(entries: &[Items<u16>]) -> u64
     count
 }
 
+/// How many cells a matrix has.
+pub(crate) fn matrix_cells(m: &Matrix) -> u64
+    ensures count { result ≡ cells_of m.now }
+    ensures few { result ≤ 1048576 }
+{
+    m.cells().len() as u64
+}
+
 /// How many cells the matrices have.
 pub(crate) fn count_cells(matrices: &[Matrix]) -> u64
     requires { length matrices.now ≤ 128 }
@@ -56,7 +71,7 @@ pub(crate) fn count_cells(matrices: &[Matrix]) -> u64
 {
     let mut count = 0;
     for m in matrices {
-        count += u64::from(m.rows()) * u64::from(m.cols());
+        count += matrix_cells(m);
     }
     count
 }
