@@ -9,7 +9,8 @@ use Rattle.cap_matrix.proofs.Filled.{fits_parts}
 use Rattle.cap_reduce.specs.Answers.{IsLargeNullBasis}
 use Rattle.cap_reduce.proofs.NullBasis.{one_null_basis}
 use Rattle.cap_laws.specs.Answers.{Size, Fits, Names, numbers}
-use Rattle.cap_vec_laws.proofs.Members.{kernel_of, kernel_of-is}
+use Rattle.cap_vec.specs.Members.{kernel_of}
+use Rattle.cap_vec_laws.proofs.Members.{kernel_of-is}
 use Rattle.cap_vec.specs.Sizes.{size_of, IsSizeOf, IsSizeInKernel}
 use Rattle.cap_vec.proofs.Faults.{either_fits}
 

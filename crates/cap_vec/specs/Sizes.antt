@@ -6,7 +6,7 @@ use Rattle.cap_matrix.specs.Summands.{first_in, second_in, first_out, second_out
 use Rattle.cap_laws.specs.Answers.{Size, numbers}
 use Rattle.cap_laws.specs.declared.values.Sum.{Sum}
 use Rattle.cap_vec_laws.specs.Vec.{first_columns, last_columns, stacked_difference}
-use Rattle.cap_vec_laws.proofs.Members.{kernel_of, cokernel_of, lift_of, colift_of}
+use Rattle.cap_vec.specs.Members.{kernel_of, cokernel_of, lift_of, colift_of}
 
 -- the size of a matrix
 abbrev pub size_of : Grid → Size
