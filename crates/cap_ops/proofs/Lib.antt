@@ -5,6 +5,7 @@ pub mod Shapes
 pub mod Scans
 pub mod Scanned
 pub mod Telling
+pub mod Once
 mod Table
 pub mod DerivationsBounds
 pub mod DerivationsTrees
