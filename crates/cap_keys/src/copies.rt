@@ -1,11 +1,12 @@
-// Copies of keys and of values.
+// Copies of keys, of values and of results.
 ghost use Rattle.std.specs.Prelude.{◌≡◌, IfOk};
 
 use cap_names::{Items, NoMemory};
-use cap_ops::{Arg, Arrow, Datum, Key, Value};
+use cap_ops::{Arg, Arrow, Datum, Key, Out, OutArrow, PrimOut, Value};
 use std::alloc::Global;
 
-fn copy_arrow<M: Datum>(alloc: Global, f: &Arrow<M>) -> Result<Arrow<M>, NoMemory>
+/// An equal morphism.
+pub fn copy_arrow<M: Datum>(alloc: Global, f: &Arrow<M>) -> Result<Arrow<M>, NoMemory>
     ensures { IfOk result (λ g. g ≡ f.now) }
 {
     let value = f.value.copy(alloc)?;
@@ -26,7 +27,8 @@ fn copy_arrows<M: Datum>(alloc: Global, arrows: &[Arrow<M>]) -> Result<Vec<Arrow
     Ok(copy)
 }
 
-fn copy_argument<M: Datum>(alloc: Global, arg: &Arg<M>) -> Result<Arg<M>, NoMemory>
+/// An equal argument.
+pub fn copy_argument<M: Datum>(alloc: Global, arg: &Arg<M>) -> Result<Arg<M>, NoMemory>
     ensures { IfOk result (λ a. a ≡ arg.now) }
 {
     match arg {
@@ -36,7 +38,8 @@ fn copy_argument<M: Datum>(alloc: Global, arg: &Arg<M>) -> Result<Arg<M>, NoMemo
     }
 }
 
-fn copy_arguments<M: Datum>(alloc: Global, args: &[Arg<M>]) -> Result<Vec<Arg<M>>, NoMemory>
+/// Equal arguments.
+pub fn copy_arguments<M: Datum>(alloc: Global, args: &[Arg<M>]) -> Result<Vec<Arg<M>>, NoMemory>
     ensures { IfOk result (λ copy. copy.items ≡ args.now) }
 {
     let mut copy = Vec::new(alloc);
@@ -69,4 +72,68 @@ pub fn copy_value<M: Datum>(alloc: Global, value: &Value<M>) -> Result<Value<M>,
         Value::Truth(b) => Ok(Value::Truth(*b)),
         Value::Nothing => Ok(Value::Nothing),
     }
+}
+
+/// Equal objects.
+pub fn copy_objects<O: Datum>(alloc: Global, objects: &[O]) -> Result<Vec<O>, NoMemory>
+    ensures { IfOk result (λ copy. copy.items ≡ objects.now) }
+{
+    let mut copy = Vec::new(alloc);
+    for object in objects {
+        copy.push(object.copy(alloc)?)?;
+    }
+    Ok(copy)
+}
+
+fn copy_out_arrow<M: Datum>(alloc: Global, f: &OutArrow<M>) -> Result<OutArrow<M>, NoMemory>
+    ensures { IfOk result (λ g. g ≡ f.now) }
+{
+    let value = f.value.copy(alloc)?;
+    Ok(OutArrow {
+        src: f.src,
+        tgt: f.tgt,
+        value,
+    })
+}
+
+fn copy_out_arrows<M: Datum>(
+    alloc: Global,
+    arrows: &[OutArrow<M>],
+) -> Result<Vec<OutArrow<M>>, NoMemory>
+    ensures { IfOk result (λ copy. copy.items ≡ arrows.now) }
+{
+    let mut copy = Vec::new(alloc);
+    for f in arrows {
+        copy.push(copy_out_arrow(alloc, f)?)?;
+    }
+    Ok(copy)
+}
+
+/// An equal answer.
+pub fn copy_out<M: Datum>(alloc: Global, out: &Out<M>) -> Result<Out<M>, NoMemory>
+    ensures { IfOk result (λ o. o ≡ out.now) }
+{
+    match out {
+        Out::One(f) => Ok(Out::One(copy_out_arrow(alloc, f)?)),
+        Out::Many(arrows) => {
+            let copy = copy_out_arrows(alloc, arrows.as_slice())?;
+            Ok(Out::Many(Items::new(copy)))
+        }
+        Out::Truth(b) => Ok(Out::Truth(*b)),
+        Out::Nothing => Ok(Out::Nothing),
+    }
+}
+
+/// An equal answer with equal new objects.
+pub fn copy_result<O: Datum, M: Datum>(
+    alloc: Global,
+    given: &PrimOut<O, M>,
+) -> Result<PrimOut<O, M>, NoMemory>
+    ensures { IfOk result (λ g. g ≡ given.now) }
+{
+    let fresh = copy_objects(alloc, given.fresh.as_slice())?;
+    Ok(PrimOut {
+        fresh: Items::new(fresh),
+        out: copy_out(alloc, &given.out)?,
+    })
 }

@@ -4,6 +4,8 @@ pub mod Places
 pub mod Shapes
 pub mod Scans
 pub mod Scanned
+pub mod Telling
+pub mod Once
 mod Table
 pub mod DerivationsBounds
 pub mod DerivationsTrees

@@ -56,6 +56,17 @@ slice_get-take (suc n) [] i x h = absurd (none≢some h)
 slice_get-take (suc n) (y ∷ xs) zero x h = h
 slice_get-take (suc n) (y ∷ xs) (suc i) x h = slice_get-take n xs i x h
 
+-- places in a list that has grown
+pub get-more : {X : Type 0} (xs ys : List X) (i : ℕ) (x : X) → slice_get xs i ≡ Some x → slice_get (xs ++ ys) i ≡ Some x
+get-more [] ys i x e = absurd (none≢some e)
+get-more (a ∷ xs) ys zero x e = e
+get-more (a ∷ xs) ys (suc i) x e = get-more xs ys i x e
+
+pub get-behind : {X : Type 0} (xs ys : List X) (n k : ℕ) → n ≡ length xs + k → slice_get (xs ++ ys) n ≡ slice_get ys k
+get-behind [] ys n k e = let same : n ≡ k = omega (arith, e) in ap (slice_get ys) same
+get-behind (a ∷ xs) ys zero k e = absurd (omega (arith, e))
+get-behind (a ∷ xs) ys (suc n) k e = get-behind xs ys n k (omega (arith, e))
+
 ends_in-renamed : {X Y : Type 0} (σ : X → Y) (s : Shape X) → ends_in (renamed σ s) ≡ map σ (ends_in s)
 ends_in-renamed σ (Object a) = refl
 ends_in-renamed σ (Morphism e) = refl

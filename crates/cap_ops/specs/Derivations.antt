@@ -138,6 +138,13 @@ pub record IsPlan (m : Means) (plan : Plan) : Type 0 where
   pub bounds : (op : ℕ) → op < OPERATIONS → IsLeast m op (slice_index plan.bounds op)
   pub choices : (op : ℕ) → op < OPERATIONS → slice_index_or plan.choices op Missing ≡ choice_for m plan.bounds op
 
+-- what a plan does an operation by, and its bound; the operation with number n stands at place n - 1
+abbrev pub choice : Plan → ℕ → Choice
+choice p op = slice_index_or p.choices (op - 1) Missing
+
+abbrev pub bound : Plan → ℕ → ℕ
+bound p op = slice_index p.bounds (op - 1)
+
 -- the operation's line in a certificate holds: its bound and choice are what the printed bounds make them
 pub record LineHolds (m : Means) (plan : Plan) (op : ℕ) : Type 0 where
   pub bound : slice_index plan.bounds op ≡ lightest (ways m plan.bounds op)

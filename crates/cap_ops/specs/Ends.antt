@@ -1,6 +1,7 @@
 -- The sorts and ends of the 44 operations: between which objects their arguments and their answers lie.
 use Rattle.std.specs.Prelude.{◌≡◌, ℕ, zero, suc, ◌+◌, ◌≤◌, List, [], ◌∷◌, ◌++◌, Option, Some, None, map, unwrap_or, slice_get, Contains}
 use Rattle.std.specs.List.{flat_map}
+use Rattle.cap_ops.specs.Once.{once}
 use Rattle.cap_ops.specs.declared.ends.Ends.{Ends}
 use Rattle.cap_ops.specs.declared.ends.Shape.{Shape}
 use Rattle.cap_ops.specs.declared.ends.Shape.TheVariants.{Object, Morphism, Two, Four, Truth, Scalar}
@@ -157,6 +158,10 @@ places (s ∷ ss) = ends_in s ++ places ss
 -- the letter stands for an object that only the answer has
 abbrev pub IsNew : Profile → ℕ → Type 0
 IsNew p letter = Contains (places p.arguments) letter → ⊥
+
+-- the letters that only the answer has, each once, in order of first mention
+abbrev pub new_letters : Profile → List ℕ
+new_letters p = once (λ letter. letter) (places p.arguments) (ends_in p.answer)
 
 -- the sort and ends with other names for the objects
 abbrev pub renamed_ends : {X Y : Type 0} → (X → Y) → Ends X → Ends Y

@@ -1,3 +1,4 @@
+pub mod Once
 pub mod Ends
 pub mod Offered
 pub mod Operations
@@ -9,3 +10,5 @@ pub mod Told
 pub mod Mismatches
 pub mod Scan
 pub mod Primitives
+pub mod Cells
+pub mod Mentions

@@ -69,3 +69,11 @@ module _ {O M : Type 0} (C : CategoryData O (Between O M)) where
 abbrev pub end_object : {O : Type 0} → (Handle → Option O) → List O → End → Option O
 end_object told fresh (Old h) = told h
 end_object told fresh (New k) = slice_get fresh k
+
+-- a handle is a place in the list of the objects told
+abbrev pub told_in : {O : Type 0} → List O → Handle → Option O
+told_in objects h = slice_get objects h.0
+
+-- what was told stays
+abbrev pub StaysTold : {O : Type 0} → (Handle → Option O) → (Handle → Option O) → Type 0
+StaysTold {O} told told' = (h : Handle) (o : O) → told h ≡ Some o → told' h ≡ Some o

@@ -21,7 +21,7 @@ pub use ends::{Ends, OperationEnds, Shape, arity, operation_ends};
 pub use fitting::{Mismatch, ends_fit};
 pub use keys::{Arg, Key, Out, PrimOut, Value};
 pub use offers::{kind_word, offered};
-pub use plans::{Choice, Kind, MOST_WEIGHT, NO_PLAN, OPERATIONS, Plan, Regs, RuleCost};
+pub use plans::{Choice, Kind, MOST_WEIGHT, NO_PLAN, OPERATIONS, Plan, Regs, RuleCost, choice_of};
 pub use primitives::{Datum, Objects, Offer};
 pub use signatures::signature;
 pub use sorts::{Signature, Sort};

@@ -1,4 +1,8 @@
 // Kinds, registrations, costs of rules, and plans.
+ghost use Rattle.std.specs.Prelude.{◌≡◌};
+ghost use Rattle.cap_ops.specs.Derivations.{choice};
+ghost use Rattle.cap_ops.specs.Ends.{IsOperation};
+
 use cap_names::{OpId, RuleNo};
 
 /// How many operations there are. The operation with number n stands at place n - 1 of each array.
@@ -48,4 +52,12 @@ pub struct RuleCost {
 pub struct Plan {
     pub choices: [Choice; 44],
     pub bounds: [u64; 44],
+}
+
+/// What the plan does an operation by.
+pub fn choice_of(plan: &Plan, op: OpId) -> Choice
+    requires { IsOperation op.0 }
+    ensures { result ≡ choice plan.now op.0 }
+{
+    plan.choices[op.0 as usize - 1]
 }

@@ -4,7 +4,7 @@ ghost use Rattle.cap_laws.specs.Linear.{IsLinear};
 ghost use Rattle.cap_names.specs.declared.identifiers.Handle.{Handle};
 ghost use Rattle.cap_ops.specs.Arrows.{over, arguments};
 ghost use Rattle.cap_ops.specs.Told.{Known, HasPlainEnds};
-ghost use Rattle.cap_ops.specs.Primitives.{OfferData, prime_of, PrimGives, PrimsMean};
+ghost use Rattle.cap_ops.specs.Primitives.{OfferData, prime_of, PrimGives, PrimsMean, HasOneOutcome, HasFewObjects};
 ghost use Rattle.cap_ops.specs.Values.{Fits};
 
 use crate::keys::{Arg, PrimOut};
@@ -67,7 +67,8 @@ pub trait Offer {
     fn offers(&self, op: OpId) -> Option<u32>
         ensures { result ≡ (offered self.now).weight op.0 };
 
-    /// The answer of an operation's primitive, with its new objects; or the size of a matrix past the limits.
+    /// The answer of an operation's primitive, with its new objects, where no matrix past the limits is met; else the
+    /// size of one.
     fn prim<B: Objects<Self::O>>(
         &self,
         alloc: Global,
@@ -85,4 +86,8 @@ pub trait Offer {
     ghost linear: { (c : Self) → IsLinear (offered c).category };
 
     ghost prims_mean: { (c : Self) → PrimsMean (offered c) };
+
+    ghost one_outcome: { (c : Self) → HasOneOutcome (offered c) };
+
+    ghost few_objects: { (c : Self) → HasFewObjects (offered c) };
 }

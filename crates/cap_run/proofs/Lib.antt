@@ -1,2 +1,4 @@
 pub mod TruePlans
 pub mod RunLaws
+pub mod Puts
+pub mod Ones

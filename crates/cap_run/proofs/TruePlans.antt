@@ -226,7 +226,7 @@ module _ {O M : Type 0} (D : OfferData O M) (rules : List Rule) (p : Plan) (are 
       let w = way-prim D.kind p.bounds (op - 1) (bound p op) (slice_index_or m.weights (op - 1) None) (costs_of rules) (by-first op is Prim (λ k. missing≢prim (sym k)) e) in
       let a = is.0 in
       let k : (op - 1) + 1 ≡ op = omega (arith, a) in
-      subst (λ n. IsSome (D.weight n)) k (plan.offered (op - 1) w.0 (record { is = w.1 }))
+      subst (λ n. IsSome (D.weight n)) k (plan.offered (op - 1) w.0 w.1)
 
   not-missing : (op : ℕ) → IsOperation op → choice p op ≡ Missing → bound p op ≡ NO_PLAN
   unfolding m

@@ -3,8 +3,9 @@ use Rattle.std.specs.Prelude.{◌≡◌, ℕ, ◌-◌, ◌+◌, ◌<◌, ◌≤�
 use Rattle.std.specs.List.{All, slice_index_or}
 use Rattle.cap_names.specs.declared.identifiers.RuleNo.{RuleNo}
 use Rattle.cap_ops.specs.Ends.{IsOperation}
-use Rattle.cap_ops.specs.Primitives.{OfferData}
-use Rattle.cap_ops.specs.Derivations.{means, is_allowed, IsCost, IsPlan, IsRegistered}
+use Rattle.cap_ops.specs.Primitives.{OfferData, AreOffered}
+use Rattle.cap_ops.specs.Derivations.{means, is_allowed, IsCost, IsPlan}
+pub use Rattle.cap_ops.specs.Derivations.{choice, bound}
 use Rattle.cap_ops.specs.declared.plans.Kind.{Kind}
 use Rattle.cap_ops.specs.declared.plans.Regs.{Regs}
 use Rattle.cap_ops.specs.declared.plans.RuleCost.{RuleCost}
@@ -19,13 +20,6 @@ use Rattle.cap_terms.specs.declared.body.Step.TheVariants.{Call}
 use Rattle.cap_terms.specs.Rules.{AreNumbered, all_occurrences}
 use Rattle.cap_terms.specs.Run.{nth_from_one}
 use Rattle.cap_terms.specs.Typing.{Typed}
-
--- what an operation is done by, and its bound; the operation with number n stands at place n - 1
-abbrev pub choice : Plan → ℕ → Choice
-choice p op = slice_index_or p.choices (op - 1) Missing
-
-abbrev pub bound : Plan → ℕ → ℕ
-bound p op = slice_index p.bounds (op - 1)
 
 -- the rule with a number
 abbrev pub rule_at : List Rule → RuleNo → Option Rule
@@ -68,7 +62,7 @@ pub record IsTruePlan {O M : Type 0} (D : OfferData O M) (rules : List Rule) (p 
 pub record IsPlanOf {O M : Type 0} (D : OfferData O M) (rules : List Rule) (p : Plan) : Type 0 where
   pub regs : Regs
   pub is_plan : IsPlan (means regs (costs_of rules) D.kind) p
-  pub offered : (op n : ℕ) → IsRegistered (means regs (costs_of rules) D.kind) op n → IsSome (D.weight (op + 1))
+  pub offered : AreOffered D regs.weights
 
 -- such a plan is one by which evaluation ends
 pub record PlansAreTrue {O M : Type 0} (D : OfferData O M) : Type 0 where

@@ -1,7 +1,7 @@
 -- Plain evaluation: the value of an operation on data by a plan. No cache, no handles, no history.
 use Rattle.std.specs.Prelude.{ℕ, zero, suc, List, Option, Some, None}
 use Rattle.cap_ops.specs.Arrows.{Between, ValueOver, over}
-use Rattle.cap_ops.specs.Primitives.{OfferData, prime_of}
+use Rattle.cap_ops.specs.Primitives.{OfferData, prime_of, IsWithin}
 use Rattle.cap_ops.specs.declared.plans.Choice.{Choice}
 use Rattle.cap_ops.specs.declared.plans.Choice.TheVariants.{Prim, Missing}
 use Rattle.cap_ops.specs.declared.plans.Choice.TheVariants.{Rule as ByRule}
@@ -11,9 +11,9 @@ use Rattle.cap_terms.specs.Run.{Outcome, done, large, Calls, BodyGives}
 use Rattle.cap_run.specs.Plans.{choice, bound, rule_at}
 
 module _ {O M : Type 0} where
-  -- what the primitive of an operation gives
+  -- what the primitive of an operation gives: its answer where no size past the limits is met, else one that is met
   abbrev pub PrimitiveGives : OfferData O M → Calls O (Between O M)
-  PrimitiveGives D op args (done v) = D.answer op args v
+  PrimitiveGives D op args (done v) = D.answer op args v × IsWithin D op args
   PrimitiveGives D op args (large rows columns) = D.large op args rows columns
 
   -- what a rule's body gives, where R says what calls give

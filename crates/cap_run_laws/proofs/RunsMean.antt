@@ -68,7 +68,7 @@ module _ {O M : Type 0} (D : OfferData O M) (plain : HasPlainEnds D.category) (p
       subst (λ o. Meaning D.category o args v) c.head (body-means D.category R right r.cost.head.0 r.body computes args v (at-data R r args v body))
 
   choice-means : (R : Calls O (Between O M)) → ((op : ℕ) (args : List (ValueOver O M)) (v : ValueOver O M) → R op args (done v) → Meaning D.category op args v) → (op : ℕ) → IsOperation op → (c : Choice) → choice p op ≡ c → (args : List (ValueOver O M)) (v : ValueOver O M) → ChoiceGives D rules R c op args (done v) → Meaning D.category op args v
-  choice-means R right op is Prim e args v h = prims.means op args v h
+  choice-means R right op is Prim e args v h = prims.means op args v h.0
   choice-means R right op is (ByRule k) e args v h = let t = true_plan.rule op is k e in rule-means R right op k t.0 t.1 args v h
   choice-means R right op is Missing e args v h = absurd h
 

@@ -1,19 +1,19 @@
 // The laws of settled values, each a call that does nothing.
 ghost use Rattle.cap_settle.specs.Laws.{SettledTells, SettledValue, SettledFits};
 
-use cap_ops::Offer;
+use cap_ops::Datum;
 
 /// A settled value has the answer's data.
-pub fn law_settled_tells<C: Offer>()
-    ensures { SettledTells C.O C.M }
+pub fn law_settled_tells<O: Datum, M: Datum>()
+    ensures { SettledTells O M }
 {}
 
 /// It is the answer with handles for its ends.
-pub fn law_settled_value<C: Offer>()
-    ensures { SettledValue C.M }
+pub fn law_settled_value<M: Datum>()
+    ensures { SettledValue M }
 {}
 
 /// It fits as the answer did.
-pub fn law_settled_fits<C: Offer>()
-    ensures { SettledFits C.M }
+pub fn law_settled_fits<M: Datum>()
+    ensures { SettledFits M }
 {}

@@ -35,6 +35,21 @@ tuple-none _ two four = refl
 pub no_tuple : {Obj Mor : Type 0} (vs : List (Value Obj Mor)) (xs : List Var) → (length xs ≡ 2 → ⊥) → (length xs ≡ 4 → ⊥) → none ≡ tuple_of (all_at vs xs)
 no_tuple vs xs two four = let e = length-map xs (at vs) in sym (tuple-none (all_at vs xs) (λ h. two (sym e ∙ h)) (λ h. four (sym e ∙ h)))
 
+-- lists of two and of four by their elements
+pub pair_of : {Obj Mor : Type 0} (vs : List (Value Obj Mor)) (xs : List Var) (d : Var) → length xs ≡ 2 → tuple_of (at vs (get_or xs 0 d) ∷ at vs (get_or xs 1 d) ∷ []) ≡ tuple_of (all_at vs xs)
+pair_of vs (x ∷ y ∷ []) d long = refl
+pair_of vs [] d long = absurd (omega (arith, long))
+pair_of vs (x ∷ []) d long = absurd (omega (arith, long))
+pair_of vs (x ∷ y ∷ z ∷ xs) d long = absurd (omega (arith, long))
+
+pub quadruple_of : {Obj Mor : Type 0} (vs : List (Value Obj Mor)) (xs : List Var) (d : Var) → length xs ≡ 4 → tuple_of (at vs (get_or xs 0 d) ∷ at vs (get_or xs 1 d) ∷ at vs (get_or xs 2 d) ∷ at vs (get_or xs 3 d) ∷ []) ≡ tuple_of (all_at vs xs)
+quadruple_of vs (x ∷ y ∷ z ∷ w ∷ []) d long = refl
+quadruple_of vs [] d long = absurd (omega (arith, long))
+quadruple_of vs (x ∷ []) d long = absurd (omega (arith, long))
+quadruple_of vs (x ∷ y ∷ []) d long = absurd (omega (arith, long))
+quadruple_of vs (x ∷ y ∷ z ∷ []) d long = absurd (omega (arith, long))
+quadruple_of vs (x ∷ y ∷ z ∷ w ∷ u ∷ xs) d long = absurd (omega (arith, long))
+
 pub none-rest : {Obj Mor : Type 0} (vs : List (Value Obj Mor)) (xs : List Var) (i : ℕ) (d : Var) (b : Bool) → i < length xs → is_none (at vs (get_or xs i d)) ≡ b → has_none (all_at vs (drop i xs)) ≡ (b || has_none (all_at vs (drop (i + 1) xs)))
 none-rest vs [] i d b inside e = absurd (omega arith)
 none-rest vs (x ∷ xs) zero d b inside e = rw e refl

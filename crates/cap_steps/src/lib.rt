@@ -5,7 +5,7 @@ mod slots;
 mod steps;
 
 pub use slots::{Slot, out_of_slot, slot_of_value};
-pub use steps::{any_nothing, arguments_at, copy_arguments, copy_at, parameters, plain_step};
+pub use steps::{any_nothing, arguments_at, copy_at, parameters, plain_step};
 
 #[cfg(test)]
 mod tests;

@@ -4,6 +4,7 @@ ghost use Rattle.cap_ops.specs.declared.arrows.End.TheVariants.{Old};
 ghost use Rattle.cap_ops.specs.Arrows.{argument, arguments, old, out_value, tuple, between, value_of};
 ghost use Rattle.cap_steps.specs.Slots.{slot_value, IsArgument, IsAnswer, IsTuple};
 
+use cap_keys::copy_arrow;
 use cap_names::{Handle, Items, NoMemory};
 use cap_ops::{Arg, Arrow, Datum, End, Out, OutArrow, Value};
 use std::alloc::Global;
@@ -18,17 +19,6 @@ pub enum Slot<M> {
     Truth(bool),
     Scalar(u16),
     Nothing,
-}
-
-pub fn copy_arrow<M: Datum>(alloc: Global, f: &Arrow<M>) -> Result<Arrow<M>, NoMemory>
-    ensures { IfOk result (λ g. g ≡ f.now) }
-{
-    let value = f.value.copy(alloc)?;
-    Ok(Arrow {
-        src: f.src,
-        tgt: f.tgt,
-        value,
-    })
 }
 
 pub fn copy_slot<M: Datum>(alloc: Global, slot: &Slot<M>) -> Result<Slot<M>, NoMemory>
@@ -61,16 +51,6 @@ pub fn slot_of_argument<M: Datum>(alloc: Global, arg: &Arg<M>) -> Result<Slot<M>
     }
 }
 
-pub fn copy_argument<M: Datum>(alloc: Global, arg: &Arg<M>) -> Result<Arg<M>, NoMemory>
-    ensures { IfOk result (λ a. a ≡ arg.now) }
-{
-    match arg {
-        Arg::Obj(h) => Ok(Arg::Obj(*h)),
-        Arg::Mor(f) => Ok(Arg::Mor(copy_arrow(alloc, f)?)),
-        Arg::Num(n) => Ok(Arg::Num(*n)),
-    }
-}
-
 pub fn argument_of_slot<M: Datum>(alloc: Global, slot: &Slot<M>) -> Result<Arg<M>, NoMemory>
     requires { IsArgument (slot_value slot.now) }
     ensures { IfOk result (λ a. argument a ≡ slot_value slot.now) }
@@ -79,7 +59,7 @@ pub fn argument_of_slot<M: Datum>(alloc: Global, slot: &Slot<M>) -> Result<Arg<M
         Slot::Object(h) => Ok(Arg::Obj(*h)),
         Slot::Morphism(f) => Ok(Arg::Mor(copy_arrow(alloc, f)?)),
         Slot::Scalar(n) => Ok(Arg::Num(*n)),
-        _ => Err(NoMemory),
+        Slot::Two(..) | Slot::Four(..) | Slot::Truth(_) | Slot::Nothing => unreachable!(),
     }
 }
 
@@ -117,7 +97,7 @@ pub fn out_of_slot<M: Datum>(alloc: Global, slot: Slot<M>) -> Result<Out<M>, NoM
         }
         Slot::Truth(b) => Ok(Out::Truth(b)),
         Slot::Nothing => Ok(Out::Nothing),
-        _ => Err(NoMemory),
+        Slot::Object(_) | Slot::Scalar(_) => unreachable!(),
     }
 }
 

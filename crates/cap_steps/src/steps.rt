@@ -6,9 +6,8 @@ ghost use Rattle.cap_ops.specs.Arrows.{Between, over, between, argument, argumen
 ghost use Rattle.cap_terms.specs.Run.{at, all_at, has_none, is_none, source_of, target_of, part_of, exists_of, both_of, when_of, tuple_of};
 ghost use Rattle.cap_steps.specs.Slots.{slot_value, slots, IsArgument, AreArguments, plain};
 
-use crate::slots::{
-    Slot, argument_of_slot, copy_argument, copy_arrow, copy_slot, slot_of_argument,
-};
+use crate::slots::{Slot, argument_of_slot, copy_slot, slot_of_argument};
+use cap_keys::copy_arrow;
 use cap_names::NoMemory;
 use cap_ops::{Arg, Arrow, Datum};
 use cap_terms::{Step, Var};
@@ -137,26 +136,15 @@ fn quadruple<M: Datum>(
     Ok(Slot::Four(first, second, third, fourth))
 }
 
-fn some_tuple<M: Datum>(alloc: Global, env: &[Slot<M>], xs: &[Var]) -> Result<Slot<M>, NoMemory>
-    ensures { IfOk result (λ s. slot_value s ≡ tuple_of (all_at (slots env.now) xs.now)) }
-{
-    match xs {
-        [x, y] => pair(alloc, env, *x, *y),
-        [x, y, z, w] => quadruple(alloc, env, *x, *y, *z, *w),
-        _ => Err(NoMemory),
-    }
-}
-
-#[tactic(auto, using(crate::proofs::SlotsAt::no_tuple))]
+#[tactic(auto, using(crate::proofs::SlotsAt::pair_of, crate::proofs::SlotsAt::quadruple_of, crate::proofs::SlotsAt::no_tuple))]
 fn tuple<M: Datum>(alloc: Global, env: &[Slot<M>], xs: &[Var]) -> Result<Slot<M>, NoMemory>
     ensures { IfOk result (λ s. slot_value s ≡ tuple_of (all_at (slots env.now) xs.now)) }
 {
-    let count = xs.len();
-    if count == 2 {
-        return some_tuple(alloc, env, xs);
+    if xs.len() == 2 {
+        return pair(alloc, env, xs[0], xs[1]);
     }
-    if count == 4 {
-        return some_tuple(alloc, env, xs);
+    if xs.len() == 4 {
+        return quadruple(alloc, env, xs[0], xs[1], xs[2], xs[3]);
     }
     Ok(Slot::Nothing)
 }
@@ -243,7 +231,7 @@ fn argument_at<M: Datum>(alloc: Global, env: &[Slot<M>], x: Var) -> Result<Arg<M
     ensures { IfOk result (λ a. argument a ≡ at (slots env.now) x) }
 {
     match look(env, x) {
-        None => Err(NoMemory),
+        None => unreachable!(),
         Some(slot) => argument_of_slot(alloc, slot),
     }
 }
@@ -308,15 +296,4 @@ pub fn parameters<M: Datum>(alloc: Global, args: &[Arg<M>]) -> Result<Vec<Slot<M
         env.push(slot_of_argument(alloc, arg)?)?;
     }
     Ok(env)
-}
-
-/// The same arguments.
-pub fn copy_arguments<M: Datum>(alloc: Global, args: &[Arg<M>]) -> Result<Vec<Arg<M>>, NoMemory>
-    ensures { IfOk result (λ copy. copy.items ≡ args.now) }
-{
-    let mut copy = Vec::new(alloc);
-    for arg in args {
-        copy.push(copy_argument(alloc, arg)?)?;
-    }
-    Ok(copy)
 }
