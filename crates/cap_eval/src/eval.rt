@@ -12,12 +12,12 @@ ghost use Rattle.cap_board.specs.Board.{BoardState, Grows, MayPut};
 ghost use Rattle.cap_board.specs.Call.{Ready, Chosen, CallSays, BodySaysSlot, StepFits, StepSaysSlot, PutEnds};
 
 use cap_board::{Asked, Board, CallRefusal, PutAnswer};
+use cap_keys::copy_arguments;
 use cap_laws::CatFault;
 use cap_names::{Items, NoMemory, OpId, TooLarge};
 use cap_ops::{Arg, Choice, Key, Offer, PrimOut, Value, ends_fit};
 use cap_steps::{
-    Slot, any_nothing, arguments_at, copy_arguments, copy_at, out_of_slot, parameters, plain_step,
-    slot_of_value,
+    Slot, any_nothing, arguments_at, copy_at, out_of_slot, parameters, plain_step, slot_of_value,
 };
 use cap_terms::{Rule, RuleSet, Step};
 use std::alloc::Global;

@@ -18,7 +18,7 @@ use Rattle.cap_board.proofs.LoopSays.{LoopSays}
 use Rattle.cap_board.proofs.StepsSay.{plain-says, none-says, call-says}
 use Rattle.cap_board.proofs.BodiesSay.{rest-from, rest-none, loop-init, loop-chosen, loop-known, loop-fits, loop-done, loop-grows, refused-says, loop-step, grows-none, grows-more}
 use Rattle.cap_board.proofs.Facts.{fits-arguments, fits-sorts, fits-answer, ready-more, known-more, step-falls, loop-falls, known-at, mismatch-says}
-use Rattle.cap_board.proofs.CallsSay.{prim-says, large-says, head-is, rule-typed, rule-chosen, rule-refused, rule-fits, rule-puts, rule-says}
+use Rattle.cap_board.proofs.CallsSay.{prim-says, prim-puts, large-says, head-is, rule-typed, rule-chosen, rule-refused, rule-fits, rule-puts, rule-says}
 use Rattle.cap_eval.proofs.Answered.{err-is, same-size, slots-snoc, plain-unless, hit-says, not-final-says, full-says, missing-says, prim-offered, rule-inside, rule-found, rule-measure}
 use Rattle.cap_eval.proofs.eval.+eval.Goals as goal
 
@@ -504,7 +504,8 @@ value_of_key-put_value-requires-in-Miss-Rule-clause-may g t c =
     let body : BodySays D s1 s2 told2 r (arguments args) (Ok w) = subst (λ us. BodySays D s1 s2 told2 r (arguments us) (Ok w)) c.as_slice-in-Miss-Rule.ensures c.in_ok-slot-in-Miss-Rule.ensures.says in
     let ends : FitsWithAnswer (over (prime_of D)) op (arguments args) w = rule-fits D s told op args fits s1 told1 number asks are r found s2 told2 c.run_rule.ensures.grows (never_mismatches (over (prime_of D)) r.cost.head.0 r.body) w body.1 in
     let offers : s2.offer ≡ c.args.offer.now = c.run_rule.ensures.grows.offer ∙ (c.in_ok-value.ensures.asks.grows.offer ∙ c.requires.ready.offers) in
-    subst (λ o. MayPut (g.C.Offer.offered o) s2 told2 op args (record { fresh = c.new-in-Miss-Rule.result; out = c.in_ok-out_of_slot-in-Miss-Rule.field-0 })) (sym offers) (rule-puts D s told op args fits s1 told1 number asks are r found s2 told2 c.run_rule.ensures.grows w body.1 ends (record { fresh = c.new-in-Miss-Rule.result; out = c.in_ok-out_of_slot-in-Miss-Rule.field-0 }) (c.new-in-Miss-Rule.ensures ∙ c.new.ensures.items) c.in_ok-out_of_slot-in-Miss-Rule.ensures)
+    let known = known-more D s told s2 told2 (arguments args) (grows-more s told s1 told1 s2 told2 c.in_ok-value.ensures.asks.grows c.run_rule.ensures.grows) c.requires.known in
+    subst (λ o. MayPut (g.C.Offer.offered o) s2 told2 op args (record { fresh = c.new-in-Miss-Rule.result; out = c.in_ok-out_of_slot-in-Miss-Rule.field-0 })) (sym offers) (rule-puts D s told op args fits s1 told1 number asks are r found s2 told2 c.run_rule.ensures.grows known w body.1 ends (record { fresh = c.new-in-Miss-Rule.result; out = c.in_ok-out_of_slot-in-Miss-Rule.field-0 }) (c.new-in-Miss-Rule.ensures ∙ c.new.ensures.items) c.in_ok-out_of_slot-in-Miss-Rule.ensures)
 
 pub value_of_key-returns-in-Hit-clause-says : goal.value_of_key-returns-in-Hit-clause-says
 value_of_key-returns-in-Hit-clause-says g t c =
@@ -570,6 +571,21 @@ value_of_key-put_value-requires-clause-known g t c =
     let args = arguments c.args.key.now.args in
     let known = known-more D s told s1 told1 args c.in_ok-value.ensures.asks.grows c.requires.known in
     subst (λ o. Known (g.C.Offer.offered o).category told1 args) (sym (c.in_ok-value.ensures.asks.grows.offer ∙ c.requires.ready.offers)) known
+
+pub value_of_key-put_value-requires-clause-may : goal.value_of_key-put_value-requires-clause-may
+value_of_key-put_value-requires-clause-may g t c =
+    let D = g.C.Offer.offered c.args.offer.now in
+    let s = g.B.Board.state c.args.board.now in
+    let told = g.B.Objects.told c.args.board.now in
+    let s1 = g.B.Board.state c.ask.new.self in
+    let told1 = g.B.Objects.told c.ask.new.self in
+    let op = c.args.key.now.op.0 in
+    let args = c.args.key.now.args in
+    let fits : Fits (over (prime_of D)) op (arguments args) = subst (λ us. Fits (over (prime_of D)) op (arguments us)) c.as_slice.ensures ((c.in-Ok.ensures.fits (prime_of D)).0 refl) in
+    let asks : Asks D s told op args (Miss Prim) s1 told1 = subst (λ a. Asks D s told op args a s1 told1) (c.in-Miss-Prim.is ∙ ap Miss c.in-Miss-Prim.field-0-is) (subst (λ o. Asks (g.C.Offer.offered o) s told op args c.in_ok-value.field-0 s1 told1) c.requires.ready.offers c.in_ok-value.ensures.asks) in
+    let known = known-more D s told s1 told1 (arguments args) asks.grows c.requires.known in
+    let prim = subst (λ us. PrimAnswers D told1 op us c.in-Ok-prim.out) c.as_slice-in-Miss-Prim.ensures c.in-Ok-prim.ensures in
+    subst (λ o. MayPut (g.C.Offer.offered o) s1 told1 op args c.in-Ok-prim.out) (sym (asks.grows.offer ∙ c.requires.ready.offers)) (prim-puts D s told op args fits s1 told1 asks known c.in-Ok-prim.out prim)
 
 pub value_of_key-returns-in-Ok-prim-clause-onward : goal.value_of_key-returns-in-Ok-prim-clause-onward
 value_of_key-returns-in-Ok-prim-clause-onward g t c = g.met.B.Board.goes_on c.args.board.now c.ask.new.self c.put_value.new.board c.ask.ensures.onward c.put_value.ensures.onward
