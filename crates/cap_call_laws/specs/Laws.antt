@@ -11,7 +11,7 @@ use Rattle.cap_ops.specs.Primitives.{OfferData}
 use Rattle.cap_ops.specs.Meaning.{Meaning}
 use Rattle.cap_rules.specs.Table.{rule_table}
 use Rattle.cap_run.specs.Plans.{AreRules, IsPlanOf}
-use Rattle.cap_board.specs.Board.{Good}
+use Rattle.cap_run.specs.Puts.{Good}
 
 -- the 59 rules are numbered and typed, and cost each operation as often as their bodies call it
 abbrev pub RulesCanRun : Type 0
