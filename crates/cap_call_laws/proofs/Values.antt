@@ -12,7 +12,7 @@ use Rattle.cap_ops.specs.Primitives.{OfferData, PrimsMean}
 use Rattle.cap_ops.proofs.DerivationsCosts.{costs_pass}
 use Rattle.cap_rules.specs.Table.{rule_table}
 use Rattle.cap_rules.proofs.TypedRules.{rules_are_typed, rules_are_counted, rules_are_numbered}
-use Rattle.cap_rules.proofs.SoundRules.{all-unmarked-sound, all-sound}
+use Rattle.cap_rule_laws.proofs.SoundRules.{all-unmarked-sound, all-sound}
 use Rattle.cap_run.specs.Plans.{costs_of}
 use Rattle.cap_run.proofs.TruePlans.{plans-are-true}
 use Rattle.cap_run_laws.specs.Meant.{AllAllowedSound}

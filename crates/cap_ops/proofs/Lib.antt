@@ -6,6 +6,7 @@ pub mod Scans
 pub mod Scanned
 pub mod Telling
 pub mod Once
+pub mod NewObjects
 mod Table
 pub mod DerivationsBounds
 pub mod DerivationsTrees

@@ -12,3 +12,4 @@ pub mod Scan
 pub mod Primitives
 pub mod Cells
 pub mod Mentions
+pub mod Fresh

@@ -6,6 +6,7 @@ mod derivations;
 mod ends;
 mod fitting;
 mod keys;
+mod laws;
 mod offers;
 pub mod operations;
 mod plans;
@@ -20,6 +21,7 @@ pub use derivations::{
 pub use ends::{Ends, OperationEnds, Shape, arity, operation_ends};
 pub use fitting::{Mismatch, ends_fit};
 pub use keys::{Arg, Key, Out, PrimOut, Value};
+pub use laws::{law_names_each_once, law_new_objects};
 pub use offers::{kind_word, offered};
 pub use plans::{Choice, Kind, MOST_WEIGHT, NO_PLAN, OPERATIONS, Plan, Regs, RuleCost, choice_of};
 pub use primitives::{Datum, Objects, Offer};

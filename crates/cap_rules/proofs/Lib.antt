@@ -1,14 +1,1 @@
 pub mod TypedRules
-pub mod SoundTyped
-pub mod SoundEnds
-pub mod SoundRuns
-pub mod SoundBodies
-pub mod SoundSums
-pub mod SoundSquares
-pub mod SoundMonos
-pub mod SoundMaps
-pub mod SoundHomology
-pub mod SoundAbelian
-pub mod SoundRules
-pub mod SoundFits
-pub mod SoundExamples

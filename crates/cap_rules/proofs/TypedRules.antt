@@ -1,9 +1,11 @@
 -- What holds of each rule of the table: it is typed, counted and numbered in order.
 use Rattle.std.proofs.Common.{◌≡◌, ℕ, zero, suc, ◌+◌, ◌<◌, Bool, true, List, [], ◌∷◌, ◌++◌, length, take, get_or, refl, sym, ap, ◌∙◌, arith}
-use Rattle.std.specs.Prelude.{Option, Some, None, is_none, slice_get}
+use Rattle.std.specs.Prelude.{Option, Some, None, is_none, slice_get, map}
 use Rattle.std.specs.List.{list_all}
 use Rattle.std.proofs.lemmas.List.Elements.{All-nil, All-cons}
 use Rattle.cap_ops.specs.declared.plans.RuleCost.{RuleCost}
+use Rattle.cap_ops.specs.Derivations.{AreCosts}
+use Rattle.cap_ops.proofs.DerivationsCosts.{costs_pass}
 use Rattle.cap_ops.proofs.Letters.{both-true}
 use Rattle.cap_ops.proofs.Places.{none≢some, some_inner}
 use Rattle.cap_terms.specs.declared.body.Body.{Body}
@@ -53,6 +55,10 @@ numbered-from n (l ∷ ls) (suc i) r e = numbered-from (n + 1) ls i r e ∙ omeg
 
 pub rules_are_numbered : AreNumbered rule_table
 rules_are_numbered i r e = numbered-from 1 lines i r e
+
+-- the costs of the rules are costs
+pub costs_are : AreCosts (map (λ (r : Rule). r.cost) rule_table)
+costs_are = costs_pass (map (λ (r : Rule). r.cost) rule_table) refl refl
 
 -- the loop that joins costs and bodies
 pub joined-more : (cs : List RuleCost) (bs : List BodyCode) (i : ℕ) (d : RuleCost) (e : BodyCode) → i < length cs → i < length bs

@@ -1,5 +1,6 @@
 // What the rules cost.
 ghost use Rattle.std.specs.Prelude.{◌≡◌, map};
+ghost use Rattle.cap_ops.specs.Derivations.{AreCosts};
 ghost use Rattle.cap_terms.specs.declared.body.Rule.{Rule};
 ghost use Rattle.cap_rules.specs.Table.{rule_table};
 
@@ -609,7 +610,8 @@ const COSTS: [RuleCost; 59] = [
 
 /// The costs of the 59 rules, in order of number.
 pub fn costs() -> [RuleCost; 59]
-    ensures { result ≡ map (λ (r : Rule). r.cost) rule_table }
+    ensures table { result ≡ map (λ (r : Rule). r.cost) rule_table }
+    ensures costs { AreCosts result }
 {
     COSTS
 }

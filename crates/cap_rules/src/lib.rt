@@ -1,13 +1,10 @@
-//! The 59 derivation rules as data, and their soundness.
+//! The 59 derivation rules as data.
 #![tactic(auto)]
 
 mod bodies;
 mod codes;
 mod cost_table;
-pub mod laws;
 mod rule_table;
-#[cfg(test)]
-mod soundness_tests;
 #[cfg(test)]
 mod tests;
 

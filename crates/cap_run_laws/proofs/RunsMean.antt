@@ -18,8 +18,8 @@ use Rattle.cap_names.specs.declared.identifiers.RuleNo.{RuleNo}
 use Rattle.cap_ops.proofs.Places.{none≢some, some_inner}
 use Rattle.cap_terms.specs.declared.body.Rule.{Rule}
 use Rattle.cap_terms.specs.Run.{done, Calls, BodyGives, nth_from_one}
-use Rattle.cap_rules.specs.Soundness.{Sound}
-use Rattle.cap_rules.proofs.SoundRuns.{body-means}
+use Rattle.cap_rule_laws.specs.Soundness.{Sound}
+use Rattle.cap_rule_laws.proofs.SoundRuns.{body-means}
 use Rattle.cap_run.specs.Plans.{choice, bound, rule_at, AreRules, IsChosen, IsTruePlan}
 use Rattle.cap_run.specs.Runs.{RuleGives, ChoiceGives, RunWithin}
 use Rattle.std.proofs.lemmas.List.Elements.{All-head, All-tail}

@@ -9,7 +9,7 @@ use Rattle.cap_ops.specs.Meaning.{Meaning}
 use Rattle.cap_ops.specs.declared.plans.Plan.{Plan}
 use Rattle.cap_terms.specs.declared.body.Rule.{Rule}
 use Rattle.cap_terms.specs.Run.{done}
-use Rattle.cap_rules.specs.Soundness.{Sound}
+use Rattle.cap_rule_laws.specs.Soundness.{Sound}
 use Rattle.cap_run.specs.Plans.{AreRules, IsTruePlan}
 use Rattle.cap_run.specs.Runs.{Run}
 

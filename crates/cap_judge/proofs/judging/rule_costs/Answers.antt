@@ -6,8 +6,8 @@ use Rattle.cap_judge.proofs.judging.rule_costs.Goals as goal
 
 pub returns-clause-value : goal.returns-clause-value
 unfolding the_costs
-returns-clause-value c = c.costs.ensures
+returns-clause-value c = c.costs.ensures.table
 
 pub returns-clause-costs : goal.returns-clause-costs
 unfolding the_costs
-returns-clause-costs c = subst AreCosts (sym c.costs.ensures) costs_are
+returns-clause-costs c = subst AreCosts (sym c.costs.ensures.table) costs_are

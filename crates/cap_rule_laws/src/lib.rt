@@ -1,0 +1,9 @@
+//! The soundness of the 59 derivation rules.
+#![tactic(auto)]
+
+pub mod laws;
+
+pub use laws::{meanings_fit, sound_abelian, sound_linear};
+
+#[cfg(test)]
+mod tests;

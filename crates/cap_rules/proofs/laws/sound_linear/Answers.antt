@@ -1,5 +1,0 @@
-use Rattle.cap_rules.proofs.SoundRules.{all-unmarked-sound}
-use Rattle.cap_rules.proofs.laws.sound_linear.Goals as goal
-
-pub returns : goal.returns
-returns g c = λ k. all-unmarked-sound (g.met.C.Cat.linear k)
