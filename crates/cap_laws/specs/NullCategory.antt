@@ -31,9 +31,9 @@ null_data p = record {
   scale = λ n f. f;
 }
 
--- the morphism is counted as a matrix with a rows and b columns
+-- the morphism is counted as a matrix with a rows and b columns of morphisms that have no coefficients
 abbrev pub null_size : ℕ → ℕ → Size
-null_size a b = record { rows = a; columns = b }
+null_size a b = record { rows = a; columns = b; cells = 0 }
 
 pub null-equal : (f g : Null) → f.from ≡ g.from → f.to ≡ g.to → f ≡ g
 null-equal f g s t = ap (λ a. null a f.to) s ∙ ap (λ b. null g.from b) t

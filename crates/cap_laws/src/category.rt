@@ -1,7 +1,7 @@
 // Categories, linear and additive ones. A category is a value; objects and morphisms are data.
 // Each call has two meanings: its answer, a function on data of every size of which the laws speak, and the sizes that it meets.
 ghost use Rattle.std.specs.Prelude.{◌≡◌, IsTrue, ◌↔◌, ◌<◌, ℕ};
-ghost use Rattle.cap_laws.specs.Answers.{Answers, Size};
+ghost use Rattle.cap_laws.specs.Answers.{Answers, Copies, Size};
 ghost use Rattle.cap_laws.specs.Linear.{CategoryData, IsLinear};
 ghost use Rattle.cap_laws.specs.Universal.{IsZeroObject, IsDirectSum};
 
@@ -17,10 +17,6 @@ pub trait Cat {
     type Mor: Drop;
 
     ghost category: { Self → CategoryData Self.Obj Self.Mor };
-
-    ghost object_meets: { Self → Self.Obj → Size → Type 0 };
-
-    ghost morphism_meets: { Self → Self.Mor → Size → Type 0 };
 
     ghost identity_meets: { Self → Self.Obj → Size → Type 0 };
 
@@ -50,15 +46,15 @@ pub trait Cat {
         requires right { (category self.now).is_morphism g.now }
         ensures { IsTrue result ↔ (f.now ≡ g.now) };
 
-    /// An object equal to a.
+    /// An object equal to a; nothing but memory can be wanting.
     fn copy_object(&self, alloc: Global, a: &Self::Obj) -> Result<Self::Obj, CatFault>
         requires { (category self.now).is_object a.now }
-        ensures { Answers (object_meets self.now a.now) (λ x. x ≡ a.now) result };
+        ensures { Copies a.now result };
 
-    /// A morphism equal to f.
+    /// A morphism equal to f; nothing but memory can be wanting.
     fn copy_morphism(&self, alloc: Global, f: &Self::Mor) -> Result<Self::Mor, CatFault>
         requires { (category self.now).is_morphism f.now }
-        ensures { Answers (morphism_meets self.now f.now) (λ x. x ≡ f.now) result };
+        ensures { Copies f.now result };
 
     /// The identity of a.
     fn identity(&self, alloc: Global, a: &Self::Obj) -> Result<Self::Mor, CatFault>

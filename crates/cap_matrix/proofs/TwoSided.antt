@@ -3,6 +3,7 @@ use Rattle.std.proofs.Common.{◌≡◌, ℕ, zero, suc, ◌+◌, ◌*◌, ◌/�
 use Rattle.std.proofs.lemmas.Nat.{mul-mod_second, mul-mod, mod_below, div_below, div-mul-add, mod-mul-add}
 use Rattle.std.proofs.Math.Nat.{mod-lt, mul_left_comm, mul_assoc, zero-mul}
 use Rattle.cap_matrix.specs.Grid.{Grid, IsMatrixOf, entry, total, matrix_by, product_of, transposed_of, kron_of}
+use Rattle.cap_matrix.specs.Flat.{flat_row}
 use Rattle.cap_matrix.proofs.Sums.{total-same, total-scale, total-scale_right, total-mod, times_assoc}
 use Rattle.cap_matrix.proofs.Writes.{some_below}
 use Rattle.cap_matrix.proofs.Entries.{matrix_ext, matrix_by-at, matrix_by-is, matrix-same, same-at, small-at, product-matrix, product-at}
@@ -55,10 +56,6 @@ three-product-at {p} {m} {a} {b} {n} {l} {x} {r} pos L X R i j lt below =
     ∙ ap (λ s. s % p) (sym (total-scale b (e l i d) (λ c. e x d c * e r c j))
     ∙ total-same b (λ c. e l i d * (e x d c * e r c j)) (λ c. e x d c * (e l i d * e r c j)) (λ c lc. mul_left_comm (e l i d) (e x d c) (e r c j))))
     ∙ ap (λ s. s % p) (sym (total-flat a b (λ d c. e x d c * (e l i d * e r c j))))
-
--- the cells of x, row after row, as one row
-abbrev pub flat_row : Grid → Grid
-flat_row x = matrix_by x.prime 1 (x.row_count * x.column_count) (λ i k. entry x.entries (k / x.column_count) (k % x.column_count))
 
 pub flat_row-is : {p a b : ℕ} {x : Grid} → IsMatrixOf p a b x → flat_row x ≡ matrix_by p 1 (a * b) (λ i k. entry x.entries (k / b) (k % b))
 flat_row-is {p} {a} {b} {x} X =

@@ -1,5 +1,6 @@
 pub mod Grid
 pub mod Buffer
+pub mod Flat
 pub mod Reduced
 pub mod Kernel
 pub mod Summands

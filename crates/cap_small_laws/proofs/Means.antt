@@ -9,7 +9,8 @@ use Rattle.cap_laws.specs.Universal.{IsLift, IsAbelian}
 use Rattle.cap_vec_laws.specs.Vec.{vec_data}
 use Rattle.cap_vec_laws.proofs.Linear.{vec_linear}
 use Rattle.cap_vec_laws.proofs.Abelian.{vec_abelian}
-use Rattle.cap_vec_laws.proofs.Members.{kernel_of, lift_of, kernel_is, lift_is}
+use Rattle.cap_vec.specs.Members.{kernel_of, lift_of}
+use Rattle.cap_vec_laws.proofs.Members.{kernel_is, lift_is}
 use Rattle.cap_vec_laws.proofs.DirectSum.{direct_sum}
 use Rattle.cap_ops.specs.Values.{object, morphism, two, four, truth, scalar, none}
 use Rattle.cap_ops.specs.Told.{HasPlainEnds}

@@ -7,7 +7,7 @@ use Rattle.cap_matrix.specs.Summands.{first_in, second_in, first_out, second_out
 use Rattle.cap_laws.specs.Answers.{Size, Names}
 use Rattle.cap_laws.specs.Linear.{CategoryData}
 use Rattle.cap_vec_laws.specs.Vec.{vec_data}
-use Rattle.cap_vec_laws.proofs.Members.{kernel_of, lift_of}
+use Rattle.cap_vec.specs.Members.{kernel_of, lift_of}
 use Rattle.cap_vec.specs.Sizes.{IsSizeOf, IsSizeInSum, IsSizeInKernel, IsSizeInLift}
 use Rattle.cap_ops.specs.declared.plans.Kind.TheVariants.{Mat}
 use Rattle.cap_ops.specs.Operations.{Identity, Compose, Zero, Add, Scale, IsCongruent, DirectSum, Kernel, Lift}

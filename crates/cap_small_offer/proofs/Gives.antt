@@ -11,7 +11,8 @@ use Rattle.cap_laws.specs.declared.faults.CatFault.TheVariants.{TooLarge, NoMemo
 use Rattle.cap_laws.specs.Universal.{IsLift}
 use Rattle.cap_laws.specs.declared.values.Sum.{Sum}
 use Rattle.cap_vec_laws.specs.Vec.{vec_data}
-use Rattle.cap_vec_laws.proofs.Members.{kernel_of, lift_of, kernel_is, lift_is}
+use Rattle.cap_vec.specs.Members.{kernel_of, lift_of}
+use Rattle.cap_vec_laws.proofs.Members.{kernel_is, lift_is}
 use Rattle.cap_vec_laws.proofs.DirectSum.{direct_sum}
 use Rattle.cap_vec.specs.Sizes.{IsSizeOf, IsSizeInKernel, IsSizeInLift, IsSizeInSum, block_sum}
 use Rattle.cap_ops.specs.declared.arrows.Arrow.{Arrow}

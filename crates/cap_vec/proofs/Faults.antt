@@ -3,7 +3,7 @@ use Rattle.std.proofs.Common.{◌≡◌, ◌⊎◌, inl, inr, Result, Ok, Err, s
 use Rattle.std.specs.Prelude.{IfOk, IfErr}
 use Rattle.cap_laws.specs.declared.faults.CatFault.{CatFault}
 use Rattle.cap_laws.specs.declared.faults.CatFault.TheVariants.{TooLarge, NoMemory}
-use Rattle.cap_laws.specs.Answers.{Size, Fits, Answers}
+use Rattle.cap_laws.specs.Answers.{Size, Fits, Answers, Copies}
 
 -- the fault of a part is a fault of the whole
 pub fault_of : {A B : Type 0} (met part : Size → Type 0) (right : A → Type 0) (first : B → Type 0) (e : CatFault) → ((s : Size) → part s → met s)
@@ -26,6 +26,11 @@ pub answers_kept : {A : Type 0} (met more : Size → Type 0) (right : A → Type
     → Answers more right r → IfErr r (λ e. e ≡ NoMemory) → Answers met (λ x. right x × ((s : Size) → more s → Fits s)) r
 answers_kept met more right (Ok x) h a f = ((a.0, a.1), h)
 answers_kept met more right (Err e) h a f = subst (λ (v : CatFault). Answers met (λ x. right x × ((s : Size) → more s → Fits s)) (Err v)) (sym f) tt
+
+-- an answer that wants nothing but memory is a copy of the right one
+pub copies_answered : {A : Type 0} (met : Size → Type 0) (v : A) (r : Result A CatFault) → Answers met (λ x. x ≡ v) r → IfErr r (λ e. e ≡ NoMemory) → Copies v r
+copies_answered met v (Ok x) a f = a.0
+copies_answered met v (Err e) a f = f
 
 -- what holds of the right answer holds of an answer
 pub if_answered : {A : Type 0} (met : Size → Type 0) (P : A → Type 0) (v : A) (r : Result A CatFault) → Answers met (λ x. x ≡ v) r → P v → IfOk r P

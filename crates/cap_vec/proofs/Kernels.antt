@@ -8,16 +8,17 @@ use Rattle.cap_names.specs.declared.faults.TooLarge.{TooLarge}
 use Rattle.cap_matrix.proofs.Filled.{fits_parts}
 use Rattle.cap_reduce.specs.Answers.{IsLargeNullBasis}
 use Rattle.cap_reduce.proofs.NullBasis.{one_null_basis}
-use Rattle.cap_laws.specs.Answers.{Size, Fits, Names}
-use Rattle.cap_vec_laws.proofs.Members.{kernel_of, kernel_of-is}
+use Rattle.cap_laws.specs.Answers.{Size, Fits, Names, numbers}
+use Rattle.cap_vec.specs.Members.{kernel_of}
+use Rattle.cap_vec_laws.proofs.Members.{kernel_of-is}
 use Rattle.cap_vec.specs.Sizes.{size_of, IsSizeOf, IsSizeInKernel}
 use Rattle.cap_vec.proofs.Faults.{either_fits}
 
 -- the test of the limits is what keeping them means
-pub fits_size : (n m : ℕ) → fits_limits n m ≡ true → Fits (record { rows = n; columns = m })
+pub fits_size : (n m : ℕ) → fits_limits n m ≡ true → Fits (numbers n m)
 fits_size n m h = let x = fits_parts n m h in record { rows = x.0; columns = x.1; cells = x.2 }
 
-pub past_size : (n m : ℕ) → fits_limits n m ≡ false → Fits (record { rows = n; columns = m }) → ⊥
+pub past_size : (n m : ℕ) → fits_limits n m ≡ false → Fits (numbers n m) → ⊥
 past_size n m h f = search rules
 
 pub size_fits : (g : Grid) → fits_limits g.row_count g.column_count ≡ true → (s : Size) → IsSizeOf g s → Fits s

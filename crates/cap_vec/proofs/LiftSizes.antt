@@ -6,7 +6,8 @@ use Rattle.cap_matrix.specs.Grid.{Grid, IsMatrix, fits_limits}
 use Rattle.cap_laws.specs.Answers.{Size, Fits}
 use Rattle.cap_vec_laws.specs.Laws.{IsRowLift}
 use Rattle.cap_vec_laws.proofs.RowLifts.{one_row_lift}
-use Rattle.cap_vec_laws.proofs.Members.{lift_of, lift_of-rows}
+use Rattle.cap_vec.specs.Members.{lift_of}
+use Rattle.cap_vec_laws.proofs.Members.{lift_of-rows}
 use Rattle.cap_vec.specs.Sizes.{IsSizeOf, IsSizeOfSome, IsSizeInLift}
 use Rattle.cap_vec.proofs.Faults.{either_fits}
 use Rattle.cap_vec.proofs.Kernels.{size_fits}

@@ -8,7 +8,8 @@ use Rattle.cap_reduce.proofs.NullBasis.{matrix-ends}
 use Rattle.cap_laws.specs.Universal.{IsPullback, IsPushout}
 use Rattle.cap_vec_laws.specs.Vec.{vec_data, stacked_difference}
 use Rattle.cap_vec_laws.proofs.Pullback.{difference-matrix, pullback_by_null_basis, pushout_by_null_basis}
-use Rattle.cap_vec_laws.proofs.Members.{kernel_of, kernel_of-is}
+use Rattle.cap_vec.specs.Members.{kernel_of}
+use Rattle.cap_vec_laws.proofs.Members.{kernel_of-is}
 use Rattle.cap_vec.specs.Sizes.{pullback_of, pushout_of}
 
 module _ (p : ℕ) (t : is_tabled p ≡ true) where

@@ -11,8 +11,10 @@ use Rattle.cap_laws.specs.declared.values.System.{System}
 use Rattle.cap_vec_laws.specs.Vec.{vec_data}
 use Rattle.cap_vec_laws.specs.Systems.{cells_of, system_matrix, values_row}
 use Rattle.cap_vec_laws.proofs.Arrows.{as-arrow, as-matrix}
-use Rattle.cap_vec_laws.proofs.Members.{positive, lift_of, lift_is}
-use Rattle.cap_vec_laws.proofs.Systems.{AreEquations, width_of, system-matrix, values-matrix}
+use Rattle.cap_vec.specs.Members.{lift_of}
+use Rattle.cap_vec_laws.proofs.Members.{positive, lift_is}
+use Rattle.cap_vec_laws.specs.Systems.{AreEquations, width_of}
+use Rattle.cap_vec_laws.proofs.Systems.{system-matrix, values-matrix}
 use Rattle.cap_vec.specs.Sizes.{size_of, IsSizeOf, IsSizeOfSome, IsSizeInLift}
 use Rattle.cap_vec.proofs.Faults.{either_fits}
 

@@ -10,7 +10,8 @@ use Rattle.cap_matrix.specs.Made.{IsMade}
 use Rattle.cap_matrix.specs.declared.MatrixFault.{MatrixFault}
 use Rattle.cap_matrix.specs.declared.MatrixFault.TheVariants.{TooLarge, NoMemory}
 use Rattle.cap_matrix.proofs.Filled.{held-at, fits_same}
-use Rattle.cap_matrix.proofs.TwoSided.{flat_row, flat_row-matrix, kron-matrix}
+use Rattle.cap_matrix.specs.Flat.{flat_row}
+use Rattle.cap_matrix.proofs.TwoSided.{flat_row-matrix, kron-matrix}
 use Rattle.cap_matrix.proofs.Transpose.{transposed-matrix}
 use Rattle.cap_matrix.proofs.Entries.{zero-matrix}
 use Rattle.cap_matrix.proofs.Blocks.{beside-matrix}
@@ -23,7 +24,8 @@ use Rattle.cap_laws.specs.declared.values.Term.{Term}
 use Rattle.cap_laws.specs.declared.values.Equation.{Equation}
 use Rattle.cap_vec_laws.specs.Vec.{vec_data}
 use Rattle.cap_vec_laws.specs.Systems.{cells_of, in_rows, coefficients_of, system_matrix, values_row}
-use Rattle.cap_vec_laws.proofs.Systems.{AreTerms, AreEquations, width_of, in_rows-matrix}
+use Rattle.cap_vec_laws.specs.Systems.{AreTerms, AreEquations, width_of}
+use Rattle.cap_vec_laws.proofs.Systems.{in_rows-matrix}
 use Rattle.cap_vec.specs.Sizes.{size_of, IsSizeOf}
 use Rattle.cap_vec.specs.SystemSizes.{IsSizeOfFactor, IsSizeInEquations}
 use Rattle.cap_vec.proofs.Faults.{either_fits}

@@ -11,7 +11,7 @@ use Rattle.cap_laws.specs.Answers.{Size, Fits}
 use Rattle.cap_laws.specs.Systems.{Nth}
 use Rattle.cap_laws.specs.Systems.Nth.{here, further}
 use Rattle.cap_vec_laws.specs.Systems.{cells_of}
-use Rattle.cap_vec_laws.proofs.Systems.{matrices_of}
+use Rattle.cap_vec_laws.specs.Systems.{matrices_of}
 use Rattle.cap_vec.specs.Sizes.{IsSizeOf}
 use Rattle.cap_vec.specs.SystemSizes.{IsSizeOfOne}
 use Rattle.cap_vec.proofs.SystemBlocks.{by_entries, cells-split, nth-at}

@@ -4,7 +4,7 @@ use Rattle.cap_field.specs.Residue.{is_tabled}
 use Rattle.cap_matrix.specs.Grid.{Grid, IsMatrix}
 use Rattle.cap_matrix.specs.Reduced.{IsNullBasis}
 use Rattle.cap_vec_laws.specs.Laws.{IsRowLift}
-use Rattle.cap_vec_laws.proofs.Members.{kernel_of, lift_of}
+use Rattle.cap_vec.specs.Members.{kernel_of, lift_of}
 
 -- the kernel is the null-row basis
 abbrev pub KernelIsNullBasis : Type 0

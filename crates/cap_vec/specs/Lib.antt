@@ -1,3 +1,4 @@
+pub mod Members
 pub mod Sizes
 pub mod SystemSizes
 pub mod Solved

@@ -3,14 +3,14 @@ use Rattle.std.specs.Prelude.{◌≡◌, ◌⊎◌, ℕ, ◌+◌, ◌==◌, if�
 use Rattle.cap_field.specs.Residue.{is_tabled}
 use Rattle.cap_matrix.specs.Grid.{Grid, matrix_by, transposed_of}
 use Rattle.cap_matrix.specs.Summands.{first_in, second_in, first_out, second_out}
-use Rattle.cap_laws.specs.Answers.{Size}
+use Rattle.cap_laws.specs.Answers.{Size, numbers}
 use Rattle.cap_laws.specs.declared.values.Sum.{Sum}
 use Rattle.cap_vec_laws.specs.Vec.{first_columns, last_columns, stacked_difference}
-use Rattle.cap_vec_laws.proofs.Members.{kernel_of, cokernel_of, lift_of, colift_of}
+use Rattle.cap_vec.specs.Members.{kernel_of, cokernel_of, lift_of, colift_of}
 
 -- the size of a matrix
 abbrev pub size_of : Grid → Size
-size_of g = record { rows = g.row_count; columns = g.column_count }
+size_of g = numbers g.row_count g.column_count
 
 abbrev pub IsSizeOf : Grid → Size → Type 0
 IsSizeOf g s = s ≡ size_of g

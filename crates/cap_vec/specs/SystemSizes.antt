@@ -7,7 +7,7 @@ use Rattle.cap_laws.specs.declared.values.Term.{Term}
 use Rattle.cap_laws.specs.declared.values.Equation.{Equation}
 use Rattle.cap_laws.specs.declared.values.System.{System}
 use Rattle.cap_vec_laws.specs.Systems.{system_matrix}
-use Rattle.cap_vec_laws.proofs.Systems.{solution_of}
+use Rattle.cap_vec.specs.Members.{solution_of}
 use Rattle.cap_vec.specs.Sizes.{IsSizeOf}
 
 -- the sizes of the factors of the terms

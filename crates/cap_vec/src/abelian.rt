@@ -3,7 +3,7 @@ ghost use Rattle.std.specs.Prelude.{◌≡◌, true};
 ghost use Rattle.cap_field.specs.Residue.{is_tabled};
 ghost use Rattle.cap_matrix.specs.Grid.{IsMatrix, transposed_of};
 ghost use Rattle.cap_laws.specs.Answers.{Answers};
-ghost use Rattle.cap_vec_laws.proofs.Members.{kernel_of, cokernel_of};
+ghost use Rattle.cap_vec.specs.Members.{kernel_of, cokernel_of};
 ghost use Rattle.cap_vec.specs.Sizes.{IsSizeInKernel, IsSizeInCokernel};
 
 use crate::VecCat;
@@ -43,7 +43,8 @@ pub(crate) fn cokernel(alloc: Global, field: Field, f: &VecMor) -> Result<VecMor
 }
 
 impl WeakKernels for VecCat {
-    ghost use Rattle.cap_vec_laws.proofs.Members.{kernel_of, weak_kernel_is};
+    ghost use Rattle.cap_vec.specs.Members.{kernel_of};
+    ghost use Rattle.cap_vec_laws.proofs.Members.{weak_kernel_is};
     ghost use Rattle.cap_vec.specs.Sizes.{IsSizeInKernel};
 
     ghost weak_kernel_of = { λ c f. kernel_of c.field c.tabled f };
@@ -58,7 +59,8 @@ impl WeakKernels for VecCat {
 }
 
 impl WeakCokernels for VecCat {
-    ghost use Rattle.cap_vec_laws.proofs.Members.{cokernel_of, weak_cokernel_is};
+    ghost use Rattle.cap_vec.specs.Members.{cokernel_of};
+    ghost use Rattle.cap_vec_laws.proofs.Members.{weak_cokernel_is};
     ghost use Rattle.cap_vec.specs.Sizes.{IsSizeInCokernel};
 
     ghost weak_cokernel_of = { λ c f. cokernel_of c.field c.tabled f };
@@ -73,7 +75,8 @@ impl WeakCokernels for VecCat {
 }
 
 impl Abelian for VecCat {
-    ghost use Rattle.cap_vec_laws.proofs.Members.{kernel_of, cokernel_of, lift_of, colift_of, kernel_is, cokernel_is, lift_is, colift_is};
+    ghost use Rattle.cap_vec.specs.Members.{kernel_of, cokernel_of, lift_of, colift_of};
+    ghost use Rattle.cap_vec_laws.proofs.Members.{kernel_is, cokernel_is, lift_is, colift_is};
     ghost use Rattle.cap_vec_laws.proofs.Abelian.{vec_abelian};
     ghost use Rattle.cap_vec.specs.Sizes.{IsSizeInKernel, IsSizeInCokernel, IsSizeInLift, IsSizeInColift};
 

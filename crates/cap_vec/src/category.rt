@@ -38,10 +38,6 @@ impl Cat for VecCat {
 
     ghost category = { λ c. vec_data c.field };
 
-    ghost object_meets = { λ c a s. ⊥ };
-
-    ghost morphism_meets = { λ c f s. IsSizeOf f s };
-
     ghost identity_meets = { λ c a s. IsSizeOf (unit_of c.field a) s };
 
     ghost compose_meets = { λ c f g s. IsSizeOf (product_of f g) s };

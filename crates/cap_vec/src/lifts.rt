@@ -4,7 +4,7 @@ ghost use Rattle.cap_field.specs.Residue.{is_tabled};
 ghost use Rattle.cap_matrix.specs.Buffer.{matrix_of};
 ghost use Rattle.cap_matrix.specs.Grid.{IsMatrix};
 ghost use Rattle.cap_laws.specs.Answers.{Answers};
-ghost use Rattle.cap_vec_laws.proofs.Members.{lift_of, colift_of};
+ghost use Rattle.cap_vec.specs.Members.{lift_of, colift_of};
 ghost use Rattle.cap_vec.specs.Sizes.{IsSizeOf, IsSizeInLift, IsSizeInColift};
 ghost use Rattle.cap_vec.specs.Solved.{IsRowSolved, AreRowsSolved};
 

@@ -4,14 +4,15 @@ ghost use Rattle.cap_field.specs.Residue.{is_tabled};
 ghost use Rattle.cap_matrix.specs.Grid.{Grid, IsMatrix, IsMatrixOf, entry, fits_limits, zero_of, stacked_of, kron_of, transposed_of};
 ghost use Rattle.cap_matrix.specs.Made.{IsMade};
 ghost use Rattle.cap_matrix.specs.declared.MatrixFault.TheVariants.{NoMemory};
-ghost use Rattle.cap_matrix.proofs.TwoSided.{flat_row};
+ghost use Rattle.cap_matrix.specs.Flat.{flat_row};
 ghost use Rattle.cap_laws.specs.Answers.{Answers, Size, Fits};
 ghost use Rattle.cap_laws.specs.Systems.{Nth, IsTerm, IsSystem};
 ghost use Rattle.cap_laws.specs.declared.values.Equation.{Equation};
 ghost use Rattle.cap_laws.specs.declared.faults.CatFault.TheVariants.{NoMemory as no_memory};
 ghost use Rattle.cap_vec_laws.specs.Vec.{vec_data};
 ghost use Rattle.cap_vec_laws.specs.Systems.{cells_of, in_rows, coefficients_of, system_matrix, values_row};
-ghost use Rattle.cap_vec_laws.proofs.Systems.{AreTerms, AreEquations, width_of, matrices_of, solution_of};
+ghost use Rattle.cap_vec_laws.specs.Systems.{AreTerms, AreEquations, width_of, matrices_of};
+ghost use Rattle.cap_vec.specs.Members.{solution_of};
 ghost use Rattle.cap_vec.specs.Sizes.{IsSizeOf, size_of};
 ghost use Rattle.cap_vec.specs.SystemSizes.{IsSizeOfFactor, IsSizeInEquations, IsSizeOfOne, IsSizeInSystem};
 
@@ -246,7 +247,8 @@ fn solve_system(
 }
 
 impl Lifts for VecCat {
-    ghost use Rattle.cap_vec_laws.proofs.Systems.{solution_of, solves};
+    ghost use Rattle.cap_vec.specs.Members.{solution_of};
+    ghost use Rattle.cap_vec_laws.proofs.Systems.{solves};
     ghost use Rattle.cap_vec.specs.SystemSizes.{IsSizeInSystem};
 
     ghost solution_of = { λ c s. solution_of c.field c.tabled s };

@@ -1,4 +1,4 @@
--- Canonical kernels and lifts as functions of data alone; a grid that is no matrix is first made one.
+-- Canonical kernels and lifts are functions of data alone: a grid that is no matrix is first made one. And their laws.
 use Rattle.std.proofs.Common.{◌≡◌, ℕ, ◌%◌, ◌≤◌, true, Option, sym, ap, ◌∙◌, subst, arith, inl, inr, ⊎_elim}
 use Rattle.std.specs.Prelude.{None}
 use Rattle.std.proofs.lemmas.Bool.{cases_eq}
@@ -23,14 +23,14 @@ use Rattle.cap_vec_laws.proofs.Cokernels.{cokernel-from-basis, colift_by_transpo
 use Rattle.cap_vec_laws.proofs.RowLifts.{row_lift_exists, row_lift_is_lift}
 
 -- each entry modulo p
-pub residues_of : ℕ → Grid → Grid
+residues_of : ℕ → Grid → Grid
 residues_of p m = matrix_by p m.row_count m.column_count (λ i j. entry m.entries i j % p)
 
-pub residues_of-is : (p : ℕ) → 1 ≤ p → (m : Grid) → IsMatrix p (residues_of p m)
+residues_of-is : (p : ℕ) → 1 ≤ p → (m : Grid) → IsMatrix p (residues_of p m)
 unfolding residues_of
 residues_of-is p pos m = (matrix_by-is p m.row_count m.column_count (λ i j. entry m.entries i j % p) (λ i j lt below. mod-lt (entry m.entries i j) pos)).is
 
-pub residues_of-same : (p : ℕ) → 1 ≤ p → (m : Grid) → IsMatrix p m → residues_of p m ≡ m
+residues_of-same : (p : ℕ) → 1 ≤ p → (m : Grid) → IsMatrix p m → residues_of p m ≡ m
 unfolding residues_of
 residues_of-same p pos m M =
     matrix_ext (matrix_by-is p m.row_count m.column_count (λ i j. entry m.entries i j % p) (λ i j lt below. mod-lt (entry m.entries i j) pos)) (whole-matrix M)
@@ -39,26 +39,26 @@ residues_of-same p pos m M =
 pub positive : (p : ℕ) → is_tabled p ≡ true → 1 ≤ p
 positive p t = let big = (tabled_range p t).0 in omega arith
 
-pub kernel_of : (p : ℕ) → is_tabled p ≡ true → Grid → Grid
-kernel_of p t m = (null_basis_exists p t (residues_of p m) (residues_of-is p (positive p t) m)).basis
+null_basis_of : (p : ℕ) → is_tabled p ≡ true → Grid → Grid
+null_basis_of p t m = (null_basis_exists p t (residues_of p m) (residues_of-is p (positive p t) m)).basis
 
-pub kernel_of-is : (p : ℕ) (t : is_tabled p ≡ true) (m : Grid) → IsMatrix p m → IsNullBasis m (kernel_of p t m)
-unfolding kernel_of
-kernel_of-is p t m M =
-    subst (λ z. IsNullBasis z (kernel_of p t m)) (residues_of-same p (positive p t) m M) (null_basis_exists p t (residues_of p m) (residues_of-is p (positive p t) m)).is
+null_basis_of-is : (p : ℕ) (t : is_tabled p ≡ true) (m : Grid) → IsMatrix p m → IsNullBasis m (null_basis_of p t m)
+unfolding null_basis_of
+null_basis_of-is p t m M =
+    subst (λ z. IsNullBasis z (null_basis_of p t m)) (residues_of-same p (positive p t) m M) (null_basis_exists p t (residues_of p m) (residues_of-is p (positive p t) m)).is
 
-pub lift_of : (p : ℕ) → is_tabled p ≡ true → Grid → Grid → Option Grid
-lift_of p h t f = ⊎_elim
+row_lift_of : (p : ℕ) → is_tabled p ≡ true → Grid → Grid → Option Grid
+row_lift_of p h t f = ⊎_elim
     (λ e. (row_lift_exists p h (residues_of p t) (residues_of p f) (residues_of-is p (positive p h) t) (residues_of-is p (positive p h) f) e).0)
     (λ ne. None)
     (cases_eq (residues_of p t).column_count (residues_of p f).column_count)
 
-pub lift_of-rows : (p : ℕ) (h : is_tabled p ≡ true) (t f : Grid) → IsMatrix p t → IsMatrix p f → t.column_count ≡ f.column_count → IsRowLift t f (lift_of p h t f)
-unfolding lift_of
-lift_of-rows p h t f T F meet =
+row_lift_of-rows : (p : ℕ) (h : is_tabled p ≡ true) (t f : Grid) → IsMatrix p t → IsMatrix p f → t.column_count ≡ f.column_count → IsRowLift t f (row_lift_of p h t f)
+unfolding row_lift_of
+row_lift_of-rows p h t f T F meet =
     let et = residues_of-same p (positive p h) t T in
     let ef = residues_of-same p (positive p h) f F in
-    subst (λ x. IsRowLift x f (lift_of p h t f)) et (subst (λ y. IsRowLift (residues_of p t) y (lift_of p h t f)) ef
+    subst (λ x. IsRowLift x f (row_lift_of p h t f)) et (subst (λ y. IsRowLift (residues_of p t) y (row_lift_of p h t f)) ef
     (elim (cases_eq (residues_of p t).column_count (residues_of p f).column_count)
     as (λ w. IsRowLift (residues_of p t) (residues_of p f)
     (⊎_elim
@@ -70,19 +70,30 @@ lift_of-rows p h t f T F meet =
 
 pub members : MembersExist
 members p h = record {
-  kernel = kernel_of p h;
-  lift = lift_of p h;
-  basis = kernel_of-is p h;
-  lift_rows = lift_of-rows p h;
+  kernel = null_basis_of p h;
+  lift = row_lift_of p h;
+  basis = null_basis_of-is p h;
+  lift_rows = row_lift_of-rows p h;
 }
 
--- the cokernel is the transpose of the kernel of the transpose
-abbrev pub cokernel_of : (p : ℕ) → is_tabled p ≡ true → Grid → Grid
+-- the kernel and the lift that are answered, and the transposes of those of the transposes
+abbrev kernel_of : (p : ℕ) → is_tabled p ≡ true → Grid → Grid
+kernel_of p t = (members p t).kernel
+
+abbrev lift_of : (p : ℕ) → is_tabled p ≡ true → Grid → Grid → Option Grid
+lift_of p t = (members p t).lift
+
+abbrev cokernel_of : (p : ℕ) → is_tabled p ≡ true → Grid → Grid
 cokernel_of p t f = transposed_of (kernel_of p t (transposed_of f))
 
--- the colift of x along f is the transpose of the lift of x' along f'
-abbrev pub colift_of : (p : ℕ) → is_tabled p ≡ true → Grid → Grid → Option Grid
+abbrev colift_of : (p : ℕ) → is_tabled p ≡ true → Grid → Grid → Option Grid
 colift_of p t f x = map_option transposed_of (lift_of p t (transposed_of x) (transposed_of f))
+
+pub kernel_of-is : (p : ℕ) (t : is_tabled p ≡ true) (m : Grid) → IsMatrix p m → IsNullBasis m (kernel_of p t m)
+kernel_of-is p t m M = (members p t).basis m M
+
+pub lift_of-rows : (p : ℕ) (h : is_tabled p ≡ true) (t f : Grid) → IsMatrix p t → IsMatrix p f → t.column_count ≡ f.column_count → IsRowLift t f (lift_of p h t f)
+lift_of-rows p h t f T F meet = (members p h).lift_rows t f T F meet
 
 -- the laws of an abelian category for them
 module _ (p : ℕ) (t : is_tabled p ≡ true) where

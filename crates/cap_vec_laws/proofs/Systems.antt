@@ -7,7 +7,8 @@ use Rattle.cap_matrix.proofs.Entries.{matrix_ext, matrix_by-at, matrix_by-is, sm
 use Rattle.cap_matrix.proofs.Algebra.{product-zero, sum-zero, zero-sum, product-sum}
 use Rattle.cap_matrix.proofs.Transpose.{transposed-matrix}
 use Rattle.cap_matrix.proofs.Blocks.{stacked-matrix, beside-matrix, beside-left, beside-right, block-beside_first, block-beside_second, beside-product-stacked, product-beside}
-use Rattle.cap_matrix.proofs.TwoSided.{flat_row, flat_row-matrix, flat_row-at, flat_row-product, kron-matrix}
+use Rattle.cap_matrix.specs.Flat.{flat_row}
+use Rattle.cap_matrix.proofs.TwoSided.{flat_row-matrix, flat_row-at, flat_row-product, kron-matrix}
 use Rattle.cap_laws.specs.Linear.{Arrow}
 use Rattle.cap_laws.specs.Systems.{Nth, IsTerm, IsEquation, IsSystem, IsSolution, AnswersSystem, Ends, total}
 use Rattle.cap_laws.specs.Systems.Nth.{here, further}
@@ -19,9 +20,10 @@ use Rattle.std.specs.Prelude.{Some, None}
 use Rattle.std.proofs.lemmas.Bool.{cases_lt}
 use Rattle.cap_field.specs.Residue.{is_tabled}
 use Rattle.cap_vec_laws.specs.Vec.{vec_data}
-use Rattle.cap_vec_laws.specs.Systems.{cells_of, in_rows, coefficients_of, system_matrix, values_row, cells_row}
+use Rattle.cap_vec_laws.specs.Systems.{cells_of, in_rows, coefficients_of, system_matrix, values_row, cells_row, AreMatrices, AreTerms, AreEquations, width_of, matrices_of, matrices_of_lift}
+use Rattle.cap_vec_laws.specs.Systems.AreMatrices.{none, one}
 use Rattle.cap_vec_laws.proofs.Arrows.{as-arrow, as-matrix, as-same, whole-matrix}
-use Rattle.cap_vec_laws.proofs.Members.{positive, lift_of, lift_is}
+use Rattle.cap_vec_laws.proofs.Members.{positive, members, lift_is}
 
 zero_or_more : (b : ℕ) → (b ≡ 0) ⊎ (0 < b)
 zero_or_more zero = inl refl
@@ -36,11 +38,6 @@ place_parts m a b lt =
     let k = a * m + b in
     let s = same_from_place (k / m) (k % m) a b m (mod_below k m (let o : 0 < m = omega arith in o)) lt (div-add-mod' k m) in
     (s.0, s.1)
-
--- the matrices xs have the ends us, one by one
-pub data AreMatrices (p : ℕ) : List (ℕ × ℕ) → List Grid → Type 0 where
-  none : AreMatrices p [] []
-  one : {u : ℕ × ℕ} {x : Grid} {us : List (ℕ × ℕ)} {xs : List Grid} → IsMatrixOf p u.0 u.1 x → AreMatrices p us xs → AreMatrices p (u ∷ us) (x ∷ xs)
 
 module _ (p : ℕ) (pos : 1 ≤ p) where
   pub cells_row-matrix : {us : List (ℕ × ℕ)} {xs : List Grid} → AreMatrices p us xs → IsMatrixOf p 1 (cells_of us) (cells_row p xs)
@@ -113,10 +110,6 @@ flat_row-injective {p} {a} {b} {x} {y} X Y e =
     let at = λ (g : Grid) (G : IsMatrixOf p a b g). flat_row-at G 0 (i * b + j) (omega arith) place ∙ ap (λ v. entry g.entries v ((i * b + j) % b)) q.0 ∙ ap (λ v. entry g.entries i v) q.1 in
     sym (at x X) ∙ same-at e 0 (i * b + j) ∙ at y Y)
 
--- the ends of a list of terms
-pub record AreTerms (p : ℕ) (us : List (ℕ × ℕ)) (a b : ℕ) (ts : List (Term Grid)) : Type 0 where
-  pub each : (n : ℕ) (t : Term Grid) → Nth ts n t → IsTerm (vec_data p) us a b t
-
 pub terms_rest : {p a b : ℕ} {us : List (ℕ × ℕ)} {t : Term Grid} {ts : List (Term Grid)} → AreTerms p us a b (t ∷ ts) → AreTerms p us a b ts
 terms_rest h = record { each = λ n s q. h.each (suc n) s (further q) }
 
@@ -152,17 +145,8 @@ module _ (p : ℕ) (pos : 1 ≤ p) (us : List (ℕ × ℕ)) (a b : ℕ) where
       ∙ ap (λ y. sum_of (flat_row (product_of (product_of t.left (get_or xs t.unknown t.left)) t.right)) y) (coefficients-product xs ts X rest)
       ∙ sym (flat_row-sum pos (term-arrow xs t X T) (total-matrix xs ts X rest))
 
--- the equations of a system
-pub record AreEquations (p : ℕ) (us : List (ℕ × ℕ)) (es : List (Equation Grid)) : Type 0 where
-  pub each : (n : ℕ) (e : Equation Grid) → Nth es n e → IsEquation (vec_data p) us e
-
 pub equations_rest : {p : ℕ} {us : List (ℕ × ℕ)} {e : Equation Grid} {es : List (Equation Grid)} → AreEquations p us (e ∷ es) → AreEquations p us es
 equations_rest h = record { each = λ n s q. h.each (suc n) s (further q) }
-
--- how many cells the values have
-abbrev pub width_of : List (Equation Grid) → ℕ
-width_of [] = 0
-width_of (e ∷ es) = e.value.row_count * e.value.column_count + width_of es
 
 -- the sum that equation e has at xs
 abbrev pub sum_at : ℕ → List Grid → Equation Grid → Grid
@@ -267,11 +251,6 @@ row_from_solution {p} pos s h xs S =
     let X = matrices_of_solution s.unknowns xs S.count S.arrows in
     (X, solved_row p pos s.unknowns xs s.equations X h (λ n e q. (S.equations n e q).congruent))
 
--- the matrices whose cells, unknown by unknown and row by row, are y
-abbrev pub matrices_of : ℕ → List (ℕ × ℕ) → (ℕ → ℕ) → List Grid
-matrices_of p [] y = []
-matrices_of p (u ∷ us) y = matrix_by p u.0 u.1 (λ i j. y (i * u.1 + j)) ∷ matrices_of p us (λ k. y (u.0 * u.1 + k))
-
 pub matrices_of-are : (p : ℕ) (us : List (ℕ × ℕ)) (y : ℕ → ℕ) → ((k : ℕ) → k < cells_of us → y k < p) → AreMatrices p us (matrices_of p us y)
 matrices_of-are p [] y h = none
 matrices_of-are p (u ∷ us) y h =
@@ -317,14 +296,6 @@ matrices_of_row p pos us u U =
           (λ i k lt below. matrix_by-at p 1 n (λ i k. y k) i k lt below ∙ ap (λ r. entry u.entries r k) (let e : 0 ≡ i = omega arith in e)),
     )
 
--- the answer of a system: the canonical lift of the row of the values along the coefficients, or none
-abbrev pub matrices_of_lift : ℕ → List (ℕ × ℕ) → Option Grid → Option (List Grid)
-matrices_of_lift p us None = None
-matrices_of_lift p us (Some u) = Some (matrices_of p us (entry u.entries 0))
-
-abbrev pub solution_of : (p : ℕ) → is_tabled p ≡ true → System ℕ Grid → Option (List Grid)
-solution_of p t s = matrices_of_lift p s.unknowns (lift_of p t (values_row p s.equations) (system_matrix p s.unknowns s.equations))
-
 answered : {p : ℕ} → 1 ≤ p → (s : System ℕ Grid) → AreEquations p s.unknowns s.equations → (o : Option Grid)
     → IsLift (vec_data p) 1 (cells_of s.unknowns) (width_of s.equations) (values_row p s.equations) (system_matrix p s.unknowns s.equations) o
     → AnswersSystem (vec_data p) s (matrices_of_lift p s.unknowns o)
@@ -338,10 +309,12 @@ answered {p} pos s h None l = λ xs S.
     let M = system-matrix p pos s.unknowns s.equations h in
     l (record { by = cells_row p xs; arrow = as-arrow C; holds = as-same (product-matrix pos C M) (values-matrix p pos s.unknowns s.equations h) r.1 })
 
-pub solves : (p : ℕ) (t : is_tabled p ≡ true) (s : System ℕ Grid) → IsSystem (vec_data p) s → AnswersSystem (vec_data p) s (solution_of p t s)
+-- the canonical lift of the row of the values along the coefficients, cut into the unknowns, answers the system
+pub solves : (p : ℕ) (t : is_tabled p ≡ true) (s : System ℕ Grid) → IsSystem (vec_data p) s
+    → AnswersSystem (vec_data p) s (matrices_of_lift p s.unknowns ((members p t).lift (values_row p s.equations) (system_matrix p s.unknowns s.equations)))
 solves p t s h =
     let pos : 1 ≤ p = positive p t in
     let E : AreEquations p s.unknowns s.equations = record { each = h.equations } in
-    answered pos s E (lift_of p t (values_row p s.equations) (system_matrix p s.unknowns s.equations))
+    answered pos s E ((members p t).lift (values_row p s.equations) (system_matrix p s.unknowns s.equations))
     (lift_is p t 1 (cells_of s.unknowns) (width_of s.equations) (values_row p s.equations) (system_matrix p s.unknowns s.equations)
     (as-arrow (values-matrix p pos s.unknowns s.equations E)) (as-arrow (system-matrix p pos s.unknowns s.equations E)))

@@ -11,7 +11,7 @@ use cap_field::Field;
 use cap_names::Items;
 use std::alloc::Global;
 
-/// The morphism between two objects, counted as a matrix of that size.
+/// The morphism between two objects, counted as a matrix with so many rows and columns of morphisms without coefficients.
 #[derive(Debug, Drop)]
 pub struct Null {
     pub from: u32,
@@ -36,7 +36,7 @@ impl NullCategory {
 fn checked(rows: u32, cols: u32) -> Result<Null, CatFault>
     ensures { Answers (λ s. s ≡ null_size rows cols) (λ x. x ≡ null rows cols) result }
 {
-    if rows > 2048 || cols > 2048 || rows * cols > 1048576 {
+    if rows > 2048 || cols > 2048 {
         return Err(CatFault::TooLarge { rows, cols });
     }
     Ok(Null {
@@ -54,10 +54,6 @@ impl Cat for NullCategory {
     ghost use Rattle.cap_laws.specs.NullCategory.{null_data, null_size, null_linear};
 
     ghost category = { λ c. null_data c.field };
-
-    ghost object_meets = { λ c a s. ⊥ };
-
-    ghost morphism_meets = { λ c f s. s ≡ null_size f.from f.to };
 
     ghost identity_meets = { λ c a s. s ≡ null_size a a };
 
@@ -86,7 +82,10 @@ impl Cat for NullCategory {
     }
 
     fn copy_morphism(&self, _alloc: Global, f: &Null) -> Result<Null, CatFault> {
-        checked(f.from, f.to)
+        Ok(Null {
+            from: f.from,
+            to: f.to,
+        })
     }
 
     fn identity(&self, _alloc: Global, a: &u32) -> Result<Null, CatFault> {

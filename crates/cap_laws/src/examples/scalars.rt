@@ -102,18 +102,14 @@ impl Cat for Scalars {
     type Mor = Scalar;
 
     ghost use Rattle.std.specs.Prelude.{◌≡◌};
-    ghost use Rattle.cap_laws.specs.Answers.{Size};
+    ghost use Rattle.cap_laws.specs.Answers.{Size, numbers};
     ghost use Rattle.cap_laws.specs.Scalars.{scalar_data, scalar_linear};
 
     ghost category = { λ c. scalar_data c.field };
 
-    ghost object_meets = { λ c a s. ⊥ };
+    ghost identity_meets = { λ c a s. s ≡ numbers 1 1 };
 
-    ghost morphism_meets = { λ c f s. s ≡ record { rows = 1; columns = 1 } };
-
-    ghost identity_meets = { λ c a s. s ≡ record { rows = 1; columns = 1 } };
-
-    ghost compose_meets = { λ c f g s. s ≡ record { rows = 1; columns = 1 } };
+    ghost compose_meets = { λ c f g s. s ≡ numbers 1 1 };
 
     ghost congruent_meets = { λ c f g s. ⊥ };
 
@@ -158,13 +154,13 @@ impl Cat for Scalars {
 
 impl Preadditive for Scalars {
     ghost use Rattle.std.specs.Prelude.{◌≡◌};
-    ghost use Rattle.cap_laws.specs.Answers.{Size};
+    ghost use Rattle.cap_laws.specs.Answers.{Size, numbers};
 
-    ghost zero_meets = { λ c a b s. s ≡ record { rows = 1; columns = 1 } };
+    ghost zero_meets = { λ c a b s. s ≡ numbers 1 1 };
 
-    ghost add_meets = { λ c f g s. s ≡ record { rows = 1; columns = 1 } };
+    ghost add_meets = { λ c f g s. s ≡ numbers 1 1 };
 
-    ghost scale_meets = { λ c n f s. s ≡ record { rows = 1; columns = 1 } };
+    ghost scale_meets = { λ c n f s. s ≡ numbers 1 1 };
 
     fn field(&self) -> Field {
         self.field
@@ -192,12 +188,12 @@ fn unit_at_zero(value: u16) -> u16
 
 impl WeakKernels for Scalars {
     ghost use Rattle.std.specs.Prelude.{◌≡◌};
-    ghost use Rattle.cap_laws.specs.Answers.{Size};
+    ghost use Rattle.cap_laws.specs.Answers.{Size, numbers};
     ghost use Rattle.cap_laws.specs.Scalars.{weak_of, scalar_weak_kernel};
 
     ghost weak_kernel_of = { λ c f. weak_of f };
 
-    ghost weak_kernel_meets = { λ c f s. s ≡ record { rows = 1; columns = 1 } };
+    ghost weak_kernel_meets = { λ c f s. s ≡ numbers 1 1 };
 
     fn weak_kernel(&self, _alloc: Global, f: &Scalar) -> Result<Scalar, CatFault> {
         Ok(Scalar::new(unit_at_zero(f.value)))
@@ -208,12 +204,12 @@ impl WeakKernels for Scalars {
 
 impl WeakCokernels for Scalars {
     ghost use Rattle.std.specs.Prelude.{◌≡◌};
-    ghost use Rattle.cap_laws.specs.Answers.{Size};
+    ghost use Rattle.cap_laws.specs.Answers.{Size, numbers};
     ghost use Rattle.cap_laws.specs.Scalars.{weak_of, scalar_weak_cokernel};
 
     ghost weak_cokernel_of = { λ c f. weak_of f };
 
-    ghost weak_cokernel_meets = { λ c f s. s ≡ record { rows = 1; columns = 1 } };
+    ghost weak_cokernel_meets = { λ c f s. s ≡ numbers 1 1 };
 
     fn weak_cokernel(&self, _alloc: Global, f: &Scalar) -> Result<Scalar, CatFault> {
         Ok(Scalar::new(unit_at_zero(f.value)))

@@ -165,6 +165,17 @@ fn one_morphism_between_any_two_objects(rt: HostRuntime) {
     assert!(rt; before.to == 4);
     let after = then_weak_cokernel(&c, alloc, &f).expect(&rt, "memory");
     assert!(rt; after.from == 3);
+}
+
+#[test]
+fn parts_without_coefficients_are_counted_by_rows_and_columns_alone(rt: HostRuntime) {
+    let field = Field::from_prime(2).expect(&rt, "a prime of the table");
+    let c = NullCategory::new(field);
+    let alloc = rt.alloc();
+    for parts in [1100, 2048] {
+        let one = c.identity(alloc, &parts).expect(&rt, "memory");
+        assert!(rt; one.from == parts && one.to == parts, "{parts}");
+    }
     let large = c.identity(alloc, &2049);
     assert!(rt;
         large.is_err_and(|e| e
@@ -173,6 +184,9 @@ fn one_morphism_between_any_two_objects(rt: HostRuntime) {
                 cols: 2049
             })
     );
+    let wide = Null { from: 1, to: 2049 };
+    let copy = c.copy_morphism(alloc, &wide).expect(&rt, "memory");
+    assert!(rt; c.same_morphism(&wide, &copy));
 }
 
 /// X·r = v in one unknown X: 1→2, where r: 2→2 and v: 1→2.

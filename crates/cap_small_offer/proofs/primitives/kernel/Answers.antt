@@ -1,7 +1,7 @@
 use Rattle.std.proofs.Common.{◌≡◌, sym, subst}
 use Rattle.cap_laws.specs.Answers.{Answers}
 use Rattle.cap_vec.specs.Sizes.{IsSizeInKernel}
-use Rattle.cap_vec_laws.proofs.Members.{kernel_of}
+use Rattle.cap_vec.specs.Members.{kernel_of}
 use Rattle.cap_ops.specs.Arrows.{over, arguments}
 use Rattle.cap_ops.specs.Told.{Known}
 use Rattle.cap_ops.specs.Primitives.{PrimGives}

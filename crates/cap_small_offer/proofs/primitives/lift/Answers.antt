@@ -1,7 +1,7 @@
 use Rattle.std.proofs.Common.{◌≡◌, sym, subst}
 use Rattle.cap_laws.specs.Answers.{Answers}
 use Rattle.cap_vec.specs.Sizes.{IsSizeInLift}
-use Rattle.cap_vec_laws.proofs.Members.{lift_of}
+use Rattle.cap_vec.specs.Members.{lift_of}
 use Rattle.cap_ops.specs.declared.arrows.End.TheVariants.{Old}
 use Rattle.cap_ops.specs.Arrows.{over, arguments}
 use Rattle.cap_ops.specs.Told.{Known}

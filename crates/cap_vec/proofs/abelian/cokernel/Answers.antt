@@ -5,7 +5,7 @@ use Rattle.cap_reduce.proofs.NullBasis.{matrix-ends}
 use Rattle.cap_laws.specs.declared.faults.CatFault.{CatFault}
 use Rattle.cap_laws.specs.Answers.{Answers, Size, Fits}
 use Rattle.cap_laws.proofs.Sizes.{answers-after}
-use Rattle.cap_vec_laws.proofs.Members.{kernel_of, cokernel_of}
+use Rattle.cap_vec.specs.Members.{kernel_of, cokernel_of}
 use Rattle.cap_vec.specs.Sizes.{IsSizeOf, IsSizeInKernel, IsSizeInCokernel}
 use Rattle.cap_vec.proofs.Faults.{fault_of}
 use Rattle.cap_vec.proofs.abelian.cokernel.Goals as goal

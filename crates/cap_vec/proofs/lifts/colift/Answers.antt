@@ -5,7 +5,7 @@ use Rattle.cap_matrix.proofs.Transpose.{transposed-matrix}
 use Rattle.cap_reduce.proofs.NullBasis.{matrix-ends}
 use Rattle.cap_laws.specs.Answers.{Answers, Size, Fits}
 use Rattle.cap_vec_laws.specs.Vec.{map_option}
-use Rattle.cap_vec_laws.proofs.Members.{lift_of, colift_of}
+use Rattle.cap_vec.specs.Members.{lift_of, colift_of}
 use Rattle.cap_vec.specs.Sizes.{IsSizeOfSome, IsSizeInLift, IsSizeInColift}
 use Rattle.cap_vec.proofs.Faults.{fault_of, either_fits}
 use Rattle.cap_vec.proofs.lifts.colift.Goals as goal

@@ -3,7 +3,7 @@ use Rattle.std.specs.Prelude.{Some, None}
 use Rattle.cap_matrix.specs.Grid.{Grid, fits_limits}
 use Rattle.cap_matrix.specs.Buffer.{matrix_of}
 use Rattle.cap_laws.specs.Answers.{Size, Fits}
-use Rattle.cap_vec_laws.proofs.Members.{lift_of}
+use Rattle.cap_vec.specs.Members.{lift_of}
 use Rattle.cap_vec.specs.Sizes.{IsSizeOf, IsSizeInLift}
 use Rattle.cap_vec.specs.Solved.{AreRowsSolved}
 use Rattle.cap_vec.proofs.Faults.{fault_of}

@@ -3,7 +3,8 @@ use Rattle.cap_matrix.specs.Grid.{Grid, IsMatrix}
 use Rattle.cap_laws.specs.declared.faults.CatFault.{CatFault}
 use Rattle.cap_laws.specs.Answers.{Answers, Size, Fits}
 use Rattle.cap_vec_laws.specs.Vec.{stacked_difference, first_columns, last_columns}
-use Rattle.cap_vec_laws.proofs.Members.{kernel_of, kernel_of-is}
+use Rattle.cap_vec.specs.Members.{kernel_of}
+use Rattle.cap_vec_laws.proofs.Members.{kernel_of-is}
 use Rattle.cap_vec.specs.Sizes.{IsSizeInKernel, IsSizeInPair, pullback_of}
 use Rattle.cap_vec.proofs.Faults.{fault_of, answers_kept}
 use Rattle.cap_vec.proofs.PullbackLaws.{difference_is}

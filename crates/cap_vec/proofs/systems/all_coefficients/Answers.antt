@@ -6,7 +6,8 @@ use Rattle.cap_matrix.proofs.Filled.{fits_parts, fits_smaller}
 use Rattle.cap_laws.specs.Answers.{Size, Fits}
 use Rattle.cap_vec_laws.specs.Systems.{cells_of, coefficients_of, system_matrix}
 use Rattle.cap_vec_laws.proofs.Members.{positive}
-use Rattle.cap_vec_laws.proofs.Systems.{width_of, coefficients-matrix, system-matrix}
+use Rattle.cap_vec_laws.specs.Systems.{width_of}
+use Rattle.cap_vec_laws.proofs.Systems.{coefficients-matrix, system-matrix}
 use Rattle.cap_vec.specs.SystemSizes.{IsSizeInEquations}
 use Rattle.cap_vec.proofs.SystemMatrix.{made_fault, ends_fit, uncut, equations_from, terms_of_equation, nth-here, matrix-more, sizes-more, width_from, width-one}
 use Rattle.cap_vec.proofs.systems.all_coefficients.Goals as goal

@@ -3,11 +3,11 @@ use Rattle.std.proofs.Math.Seq.{drop-length}
 use Rattle.cap_matrix.specs.Grid.{Grid, zero_of, fits_limits}
 use Rattle.cap_matrix.specs.Made.{IsMade}
 use Rattle.cap_matrix.proofs.Filled.{fits_smaller}
-use Rattle.cap_matrix.proofs.TwoSided.{flat_row}
+use Rattle.cap_matrix.specs.Flat.{flat_row}
 use Rattle.cap_laws.specs.declared.values.Equation.{Equation}
 use Rattle.cap_vec_laws.specs.Systems.{values_row}
 use Rattle.cap_vec_laws.proofs.Members.{positive}
-use Rattle.cap_vec_laws.proofs.Systems.{width_of}
+use Rattle.cap_vec_laws.specs.Systems.{width_of}
 use Rattle.cap_vec.proofs.SystemMatrix.{made_fault, ends_fit, nth-here, AreValues, values_from, values-matrix, values-more, width_from, width-one}
 use Rattle.cap_vec.proofs.systems.all_values.Goals as goal
 

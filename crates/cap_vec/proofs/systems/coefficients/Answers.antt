@@ -7,7 +7,8 @@ use Rattle.cap_matrix.proofs.Filled.{fits_same, fits_parts}
 use Rattle.cap_laws.specs.Answers.{Size, Fits}
 use Rattle.cap_vec_laws.specs.Systems.{cells_of, in_rows, coefficients_of}
 use Rattle.cap_vec_laws.proofs.Members.{positive}
-use Rattle.cap_vec_laws.proofs.Systems.{AreTerms, coefficients-matrix}
+use Rattle.cap_vec_laws.specs.Systems.{AreTerms}
+use Rattle.cap_vec_laws.proofs.Systems.{coefficients-matrix}
 use Rattle.cap_vec.specs.Sizes.{IsSizeOf}
 use Rattle.cap_vec.specs.SystemSizes.{IsSizeOfFactor}
 use Rattle.cap_vec.proofs.Faults.{either_fits}

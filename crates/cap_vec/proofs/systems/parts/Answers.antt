@@ -4,7 +4,7 @@ use Rattle.cap_matrix.specs.Buffer.{IsBufferOf, matrix_of}
 use Rattle.cap_matrix.proofs.Filled.{fits_parts}
 use Rattle.cap_laws.specs.Answers.{Answers, Size, Fits}
 use Rattle.cap_laws.specs.declared.faults.CatFault.{CatFault}
-use Rattle.cap_vec_laws.proofs.Systems.{matrices_of}
+use Rattle.cap_vec_laws.specs.Systems.{matrices_of}
 use Rattle.cap_vec.specs.Sizes.{IsSizeOf}
 use Rattle.cap_vec.specs.SystemSizes.{IsSizeOfOne}
 use Rattle.cap_vec.proofs.Faults.{fault_of}

@@ -2,7 +2,7 @@ use Rattle.std.proofs.Common.{◌≡◌, take}
 use Rattle.cap_matrix.specs.Grid.{entry}
 use Rattle.cap_laws.specs.Answers.{Size, Fits}
 use Rattle.cap_vec_laws.specs.Systems.{cells_of}
-use Rattle.cap_vec_laws.proofs.Systems.{matrices_of}
+use Rattle.cap_vec_laws.specs.Systems.{matrices_of}
 use Rattle.cap_vec.specs.SystemSizes.{IsSizeOfOne}
 use Rattle.cap_vec.proofs.systems.parts.Given as goal
 

@@ -7,7 +7,8 @@ use Rattle.cap_laws.specs.Answers.{Size, Fits}
 use Rattle.cap_laws.specs.declared.values.Equation.{Equation}
 use Rattle.cap_vec_laws.specs.Systems.{cells_of, system_matrix, values_row}
 use Rattle.cap_vec_laws.proofs.Members.{positive}
-use Rattle.cap_vec_laws.proofs.Systems.{AreEquations, width_of, system-matrix, values-matrix}
+use Rattle.cap_vec_laws.specs.Systems.{AreEquations, width_of}
+use Rattle.cap_vec_laws.proofs.Systems.{system-matrix, values-matrix}
 use Rattle.cap_vec.specs.Sizes.{size_of, IsSizeOf}
 use Rattle.cap_vec.specs.SystemSizes.{IsSizeInEquations}
 use Rattle.cap_vec.proofs.Faults.{either_fits}

@@ -4,8 +4,11 @@ use Rattle.cap_matrix.specs.Grid.{Grid, IsMatrix, IsMatrixOf, entry}
 use Rattle.cap_laws.specs.Answers.{Answers, Size, Fits}
 use Rattle.cap_laws.specs.declared.faults.CatFault.{CatFault}
 use Rattle.cap_vec_laws.specs.Systems.{cells_of, system_matrix, values_row}
-use Rattle.cap_vec_laws.proofs.Members.{positive, lift_of}
-use Rattle.cap_vec_laws.proofs.Systems.{AreEquations, system-matrix, values-matrix, matrices_of, matrices_of_lift, solution_of}
+use Rattle.cap_vec.specs.Members.{lift_of}
+use Rattle.cap_vec_laws.proofs.Members.{positive}
+use Rattle.cap_vec_laws.specs.Systems.{AreEquations, matrices_of, matrices_of_lift}
+use Rattle.cap_vec.specs.Members.{solution_of}
+use Rattle.cap_vec_laws.proofs.Systems.{system-matrix, values-matrix}
 use Rattle.cap_vec.specs.Sizes.{IsSizeOf, IsSizeInLift}
 use Rattle.cap_vec.specs.SystemSizes.{IsSizeInEquations, IsSizeOfOne, IsSizeInSolution, IsSizeInSystem}
 use Rattle.cap_vec.proofs.Faults.{fault_of, either_fits}

@@ -1,6 +1,6 @@
 use Rattle.std.proofs.Common.{◌+◌, ◌-◌, ◌*◌, ◌^◌, min, take, sym, ap, ◌∙◌}
 use Rattle.cap_matrix.specs.Grid.{Grid}
-use Rattle.cap_vec_laws.proofs.Systems.{width_of}
+use Rattle.cap_vec_laws.specs.Systems.{width_of}
 use Rattle.cap_vec.proofs.SystemBlocks.{cut_sum_whole}
 use Rattle.cap_vec.proofs.SystemMatrix.{width-next}
 use Rattle.cap_vec.proofs.systems.value_count.Goals as goal

@@ -1,5 +1,5 @@
 use Rattle.std.proofs.Common.{◌≡◌, ◌-◌, ◌^◌, min, take}
-use Rattle.cap_vec_laws.proofs.Systems.{width_of}
+use Rattle.cap_vec_laws.specs.Systems.{width_of}
 use Rattle.cap_vec.proofs.systems.value_count.Given as goal
 
 abbrev pub invariant-loop-equation : goal.invariant-loop-equation
