@@ -13,3 +13,6 @@ pub use copies::{
 };
 pub use keys::same_key;
 pub use mentions::mentioned;
+
+#[cfg(test)]
+mod tests;
