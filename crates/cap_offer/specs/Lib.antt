@@ -1,0 +1,10 @@
+pub mod Label
+pub mod Labelled
+pub mod Offered
+pub mod Members
+pub mod Integers
+pub mod Written
+pub mod Faults
+pub mod Judged
+pub mod Literals
+pub mod Laws
