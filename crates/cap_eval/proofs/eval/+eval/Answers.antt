@@ -1,4 +1,4 @@
-use Rattle.std.proofs.Common.{◌≡◌, ◌∙◌, [], ◌∷◌, ◌+◌, ◌*◌, ◌<◌, drop, Some, Ok, Err, sym, subst, ap, refl, arith}
+use Rattle.std.proofs.Common.{◌≡◌, ◌∙◌, [], ◌∷◌, ◌+◌, ◌*◌, ◌<◌, drop, false, Some, Ok, Err, sym, subst, ap, refl, arith}
 use Rattle.cap_ops.specs.declared.plans.Choice.TheVariants.{Prim, Rule as ByRule, Missing}
 use Rattle.cap_ops.specs.Arrows.{over, arguments}
 use Rattle.cap_ops.specs.Mismatches.{IsMismatch}
@@ -199,7 +199,9 @@ run_step-arguments_at-requires g t c =
     let env = slots c.args.env.now in
     let op = c.in-Call.op in
     let xs = c.in-Call.args in
-    subst (λ xs. AreArguments (all_at env xs)) (sym c.as_slice-in-Call.ensures) (fits-arguments (prime_of D) op.0 (all_at env xs) (subst (λ x. StepFits (prime_of D) x env) c.in-Call.is c.requires.fits (sym (c.any_nothing.ensures ∙ ap (λ xs. has_none (all_at env xs)) c.as_slice.ensures) ∙ c.if-any_nothing.false)))
+    let some : has_none (all_at env xs) ≡ false = sym (c.any_nothing.ensures ∙ ap (λ ys. has_none (all_at env ys)) c.as_slice.ensures) ∙ c.if-any_nothing.false in
+    let fits : Fits (over (prime_of D)) op.0 (all_at env xs) = subst (λ x. StepFits (prime_of D) x env) c.in-Call.is c.requires.fits some in
+    subst (λ xs. AreArguments (all_at env xs)) (sym c.as_slice-in-Call.ensures) (fits-arguments (prime_of D) op.0 (all_at env xs) fits)
 
 pub run_step-value_of_key-requires : goal.run_step-value_of_key-requires
 run_step-value_of_key-requires g t c κs within =
@@ -210,6 +212,9 @@ run_step-value_of_key-requires g t c κs within =
     let env = slots c.args.env.now in
     let op = c.in-Call.op in
     let xs = c.in-Call.args in
+    let some : has_none (all_at env xs) ≡ false = sym (c.any_nothing.ensures ∙ ap (λ ys. has_none (all_at env ys)) c.as_slice.ensures) ∙ c.if-any_nothing.false in
+    let fits : Fits (over (prime_of D)) op.0 (all_at env xs) = subst (λ x. StepFits (prime_of D) x env) c.in-Call.is c.requires.fits some in
+    let given : arguments c.new.result ≡ all_at env xs = ap arguments c.new.ensures ∙ (c.in_ok-arguments_at-in-Call.ensures ∙ ap (λ ys. all_at env ys) c.as_slice-in-Call.ensures) in
     let chosen : Chosen D s head (Call op xs ∷ []) = subst (λ x. Chosen D s head (x ∷ [])) c.in-Call.is c.requires.chosen in
     let m : 3 * depth s.plan head ≡ t = c.decreases in
     let lt : 3 * depth s.plan op.0 + 2 < t = subst (λ n. 3 * depth s.plan op.0 + 2 < n) m (step-falls D s head op xs chosen) in (
@@ -223,8 +228,8 @@ run_step-value_of_key-requires g t c κs within =
             (
               within.1.1.1,
               (
-                fits-sorts (prime_of D) op.0 c.new.result (subst (λ vs. Fits (over (prime_of D)) op.0 vs) (sym (ap arguments c.new.ensures ∙ (c.in_ok-arguments_at-in-Call.ensures ∙ ap (λ xs. all_at env xs) c.as_slice-in-Call.ensures))) (subst (λ x. StepFits (prime_of D) x env) c.in-Call.is c.requires.fits (sym (c.any_nothing.ensures ∙ ap (λ xs. has_none (all_at env xs)) c.as_slice.ensures) ∙ c.if-any_nothing.false))),
-                (c.requires.ready, (subst (λ vs. Known D.category told vs) (sym (ap arguments c.new.ensures ∙ (c.in_ok-arguments_at-in-Call.ensures ∙ ap (λ xs. all_at env xs) c.as_slice-in-Call.ensures))) (known-at D told env xs c.requires.known), c.requires.holds)),
+                fits-sorts (prime_of D) op.0 c.new.result (subst (λ vs. Fits (over (prime_of D)) op.0 vs) (sym given) fits),
+                (c.requires.ready, (subst (λ vs. Known D.category told vs) (sym given) (known-at D told env xs c.requires.known), c.requires.holds)),
               ),
             ),
           ),
@@ -243,8 +248,11 @@ run_step-returns-in_err-value-in-Call-clause-says g t c =
     let env = slots c.args.env.now in
     let op = c.in-Call.op in
     let xs = c.in-Call.args in
+    let some : has_none (all_at env xs) ≡ false = sym (c.any_nothing.ensures ∙ ap (λ ys. has_none (all_at env ys)) c.as_slice.ensures) ∙ c.if-any_nothing.false in
+    let given : arguments c.new.result ≡ all_at env xs = ap arguments c.new.ensures ∙ (c.in_ok-arguments_at-in-Call.ensures ∙ ap (λ ys. all_at env ys) c.as_slice-in-Call.ensures) in
+    let are : AreRules s.rules = subst AreRules (sym c.requires.ready.by_rules) c.requires.ready.are in
     let chosen : Chosen D s head (Call op xs ∷ []) = subst (λ x. Chosen D s head (x ∷ [])) c.in-Call.is c.requires.chosen in
-    subst (λ w. StepSaysSlot D s s1 told1 head c.args.step.now env w) (sym (err-is c.from_residual-in_err-value-in-Call.result c.in_err-value-in-Call.field-0.0 c.from_residual-in_err-value-in-Call.ensures.1)) (subst (λ x. StepSays D s s1 told1 head x env (Err c.in_err-value-in-Call.field-0.0)) (sym c.in-Call.is) (call-says D s s1 told told1 head op xs env chosen c.requires.known c.value_of_key.ensures.grows (sym (c.any_nothing.ensures ∙ ap (λ xs. has_none (all_at env xs)) c.as_slice.ensures) ∙ c.if-any_nothing.false) c.new.result (ap arguments c.new.ensures ∙ (c.in_ok-arguments_at-in-Call.ensures ∙ ap (λ xs. all_at env xs) c.as_slice-in-Call.ensures)) (subst AreRules (sym c.requires.ready.by_rules) c.requires.ready.are) c.requires.head (Err c.in_err-value-in-Call.field-0.0) (Err c.in_err-value-in-Call.field-0.0) refl c.in_err-value-in-Call.ensures.says))
+    subst (λ w. StepSaysSlot D s s1 told1 head c.args.step.now env w) (sym (err-is c.from_residual-in_err-value-in-Call.result c.in_err-value-in-Call.field-0.0 c.from_residual-in_err-value-in-Call.ensures.1)) (subst (λ x. StepSays D s s1 told1 head x env (Err c.in_err-value-in-Call.field-0.0)) (sym c.in-Call.is) (call-says D s s1 told told1 head op xs env chosen c.requires.known c.value_of_key.ensures.grows some c.new.result given are c.requires.head (Err c.in_err-value-in-Call.field-0.0) (Err c.in_err-value-in-Call.field-0.0) refl c.in_err-value-in-Call.ensures.says))
 
 pub run_step-returns-in_err-plain_step-in_default : goal.run_step-returns-in_err-plain_step-in_default
 run_step-returns-in_err-plain_step-in_default g t c =
@@ -271,8 +279,11 @@ run_step-returns-in_ok-value-in-Call-clause-says g t c =
     let env = slots c.args.env.now in
     let op = c.in-Call.op in
     let xs = c.in-Call.args in
+    let some : has_none (all_at env xs) ≡ false = sym (c.any_nothing.ensures ∙ ap (λ ys. has_none (all_at env ys)) c.as_slice.ensures) ∙ c.if-any_nothing.false in
+    let given : arguments c.new.result ≡ all_at env xs = ap arguments c.new.ensures ∙ (c.in_ok-arguments_at-in-Call.ensures ∙ ap (λ ys. all_at env ys) c.as_slice-in-Call.ensures) in
+    let are : AreRules s.rules = subst AreRules (sym c.requires.ready.by_rules) c.requires.ready.are in
     let chosen : Chosen D s head (Call op xs ∷ []) = subst (λ x. Chosen D s head (x ∷ [])) c.in-Call.is c.requires.chosen in
-    subst (λ x. StepSays D s s1 told1 head x env (Ok (slot_value c.slot_of_value.result))) (sym c.in-Call.is) (call-says D s s1 told told1 head op xs env chosen c.requires.known c.value_of_key.ensures.grows (sym (c.any_nothing.ensures ∙ ap (λ xs. has_none (all_at env xs)) c.as_slice.ensures) ∙ c.if-any_nothing.false) c.new.result (ap arguments c.new.ensures ∙ (c.in_ok-arguments_at-in-Call.ensures ∙ ap (λ xs. all_at env xs) c.as_slice-in-Call.ensures)) (subst AreRules (sym c.requires.ready.by_rules) c.requires.ready.are) c.requires.head (Ok c.in_ok-value-in-Call.value) (Ok (slot_value c.slot_of_value.result)) c.slot_of_value.ensures c.in_ok-value-in-Call.ensures.says)
+    subst (λ x. StepSays D s s1 told1 head x env (Ok (slot_value c.slot_of_value.result))) (sym c.in-Call.is) (call-says D s s1 told told1 head op xs env chosen c.requires.known c.value_of_key.ensures.grows some c.new.result given are c.requires.head (Ok c.in_ok-value-in-Call.value) (Ok (slot_value c.slot_of_value.result)) c.slot_of_value.ensures c.in_ok-value-in-Call.ensures.says)
 
 pub run_step-returns-in_ok-plain_step-in_default : goal.run_step-returns-in_ok-plain_step-in_default
 run_step-returns-in_ok-plain_step-in_default g t c =
