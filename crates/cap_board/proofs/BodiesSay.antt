@@ -5,8 +5,9 @@ use Rattle.std.proofs.Math.ListN.{drop_of_length-le}
 use Rattle.cap_names.specs.declared.identifiers.Handle.{Handle}
 use Rattle.cap_ops.specs.Values.{Fits}
 use Rattle.cap_ops.specs.Arrows.{Between, ValueOver, over}
-use Rattle.cap_ops.specs.Told.{Tells, TellsAll, Known}
+use Rattle.cap_ops.specs.Told.{Tells, TellsAll, Known, StaysTold}
 use Rattle.cap_ops.specs.Primitives.{OfferData, prime_of}
+use Rattle.cap_ops.proofs.Telling.{all-kept, all-same, tells-snoc, data-snoc}
 use Rattle.cap_terms.specs.declared.body.Step.{Step}
 use Rattle.cap_terms.specs.declared.body.Step.TheVariants.{Call, Src, Tgt, Part, MinusOne, Exists, Both, When, Tuple}
 use Rattle.cap_terms.specs.declared.body.Rule.{Rule}
@@ -17,10 +18,10 @@ use Rattle.cap_run.specs.Plans.{bound, StepsBelow, IsPlanOf}
 use Rattle.cap_run.specs.Runs.{RunWithin}
 use Rattle.cap_board.specs.declared.refusals.CallRefusal.{CallRefusal}
 use Rattle.cap_board.specs.declared.refusals.CallRefusal.TheVariants.{Mismatch, NotFinal, Missing, TooLarge, Full, NoMemory}
-use Rattle.cap_board.specs.Board.{Event, BoardState, Grows, StaysTold}
+use Rattle.cap_board.specs.Board.{Event, BoardState, Grows}
 use Rattle.cap_board.specs.Trace.{StepEnd, StepTrace, StepsTrace, TraceWithin}
 use Rattle.cap_board.specs.Call.{depth, Chosen, StepFits, BodyTraced, BodyGood, BodySays, StepTraced, StepGood, StepSays}
-use Rattle.cap_board.proofs.Told.{all-kept, all-same, tells-at, tells-snoc, datum-at, data-snoc}
+use Rattle.cap_board.proofs.Told.{tells-at, datum-at}
 use Rattle.cap_board.proofs.Traces.{step-kept, trace-kept}
 use Rattle.cap_board.proofs.LoopSays.{LoopSays}
 use Rattle.cap_board.proofs.StepsSay.{append-nil, append-assoc, some-plan, depth-known}

@@ -16,8 +16,9 @@ use Rattle.cap_ops.specs.declared.plans.Plan.{Plan}
 use Rattle.cap_ops.specs.Ends.{profile_of}
 use Rattle.cap_ops.specs.Values.{object, morphism, two, four, truth, scalar, none, HasEnds, HasShape, HaveShapes, Fits, FitsWithAnswer}
 use Rattle.cap_ops.specs.Arrows.{Between, ValueOver, over, arguments, old, olds, out_value}
-use Rattle.cap_ops.specs.Told.{TellsArrow, Tells, AreObjects, end_object}
+use Rattle.cap_ops.specs.Told.{TellsArrow, Tells, TellsAll, AreData, AreObjects, Known, StaysTold, end_object}
 use Rattle.cap_ops.specs.Primitives.{OfferData, prime_of, PrimAnswers, PrimIsLarge}
+use Rattle.cap_ops.proofs.Telling.{all-same}
 use Rattle.cap_ops.proofs.Places.{none≢some, some_inner}
 use Rattle.cap_terms.specs.declared.body.Rule.{Rule}
 use Rattle.cap_terms.specs.Run.{done, nth_from_one, StepsGive}
@@ -25,13 +26,14 @@ use Rattle.cap_terms.specs.Ends.{NeverMismatches}
 use Rattle.cap_terms.specs.Typing.{Typed}
 use Rattle.cap_run.specs.Plans.{bound, rule_at, AreRules, StepsBelow, IsChosen, IsTruePlan, IsPlanOf}
 use Rattle.cap_run.specs.Runs.{RuleGives, ChoiceGives, RunWithin, Run}
+use Rattle.cap_run.specs.Puts.{Good, FreshBy}
 use Rattle.cap_run.proofs.TruePlans.{plans-are-true}
 use Rattle.cap_board.specs.declared.answers.Asked.TheVariants.{Miss}
 use Rattle.cap_board.specs.declared.answers.PutAnswer.{PutAnswer}
 use Rattle.cap_board.specs.declared.answers.PutAnswer.TheVariants.{Entry, Full as PutFull}
 use Rattle.cap_board.specs.declared.refusals.CallRefusal.{CallRefusal}
 use Rattle.cap_board.specs.declared.refusals.CallRefusal.TheVariants.{Mismatch as MismatchRefusal, NotFinal, Missing, TooLarge, Full, NoMemory}
-use Rattle.cap_board.specs.Board.{Event, asked, kept, BoardState, Grows, Good, StaysTold, Asks, Puts, MayPut, FreshBy}
+use Rattle.cap_board.specs.Board.{Event, asked, kept, BoardState, Grows, Asks, Puts, MayPut}
 use Rattle.cap_board.specs.Trace.{CallEnd, StepEnd, too_large, put_end, StepsTrace, RuleTrace, AfterBody, AfterAsk, TraceWithin}
 use Rattle.cap_board.specs.Call.{depth, Traced, CallSays, Chosen, BodyTraced, BodyGood, BodySays, PutEnds}
 use Rattle.cap_board.proofs.Traces.{steps-kept, trace-kept, prim-kept}
@@ -52,6 +54,10 @@ some-rule k p q h i = some_inner (sym h ∙ i)
 depth-le : (op : ℕ) (k k' : Option Plan) (p : Plan) → ((q : Plan) → k ≡ Some q → k' ≡ Some q) → k' ≡ Some p → bound p op < 2 ^ 64 → depth k' op ≤ depth k op
 depth-le op None k' p f e b = let d = depth-known k' p op e in omega (arith, d, b)
 depth-le op (Some q) k' p f e b = let d = depth-known k' q op (f q refl) in omega (arith, d)
+
+-- the data of values whose names are told are the category's, where those of some telling are
+known-data : {O M : Type 0} (D : OfferData O M) (told : Handle → Option O) (vs : List (ValueOver Handle M)) (data_of : List (ValueOver O M)) → Known D.category told vs → TellsAll told vs data_of → AreData D.category data_of
+known-data D told vs data_of known tells = subst (AreData D.category) (all-same told vs known.data_of data_of known.tells tells) known.are
 
 -- values by handles as results
 module _ {O M : Type 0} (told : Handle → Option O) (fresh : List O) where
@@ -129,13 +135,14 @@ module _ {X O M : Type 0} (D : OfferData O M) (s : BoardState X O M) (told : Han
   large-says asks rows columns h = record { added = asked op args (Miss Prim) ∷ []; events = asks.events; trace = inr (fits, Miss Prim, [], refl, inl (rows, columns, h, refl, refl)) }
 
   -- the result of a primitive may be put
-  pub prim-puts : (asks : Asks D s told op args (Miss Prim) s1 told1) (given : PrimOut O M) → PrimAnswers D told1 op args given → MayPut D s1 told1 op args given
-  prim-puts asks given prim = record {
+  pub prim-puts : (asks : Asks D s told op args (Miss Prim) s1 told1) → Known D.category told1 (arguments args) → (given : PrimOut O M) → PrimAnswers D told1 op args given → MayPut D s1 told1 op args given
+  prim-puts asks known given prim = record {
     p = asks.says.0;
     planned = asks.says.1;
     is = record {
       data_of = prim.data_of;
       tells_arguments = prim.tells_arguments;
+      are_data = known-data D told1 (arguments args) prim.data_of known prim.tells_arguments;
       value = prim.value;
       is_value = prim.is_value;
       out = prim.out;
@@ -143,7 +150,7 @@ module _ {X O M : Type 0} (D : OfferData O M) (s : BoardState X O M) (told : Han
       is_datum = prim.is_datum;
       fresh_is = subst (λ c. FreshBy D c op prim.data_of given.fresh) (sym asks.says.2) prim.fresh_is;
       fresh_objects = prim.fresh_objects;
-      runs = subst (λ c. ChoiceGives D s1.rules (RunWithin D s1.rules asks.says.0 (bound asks.says.0 op)) c op prim.data_of (done prim.out)) (sym asks.says.2) prim.answers;
+      runs = subst (λ c. ChoiceGives D s1.rules (RunWithin D s1.rules asks.says.0 (bound asks.says.0 op)) c op prim.data_of (done prim.out)) (sym asks.says.2) (prim.answers, prim.within);
       fits = prim.fits;
     };
   }
@@ -202,8 +209,8 @@ module _ {X O M : Type 0} (D : OfferData O M) (s : BoardState X O M) (told : Han
         pub rule-fits : NeverMismatches {Obj = Handle} {Mor = Between Handle M} (over (prime_of D)) r.cost.head.0 r.body → (v : ValueOver Handle M) → BodyGood D s1 told2 r (arguments args) v → FitsWithAnswer (over (prime_of D)) op (arguments args) v
         rule-fits never v d = subst (λ o. FitsWithAnswer (over (prime_of D)) o (arguments args) v) head-is (never.answer_fits rule-typed (arguments args) (subst (λ o. Fits (over (prime_of D)) o (arguments args)) (sym head-is) fits) v d.ends)
 
-        pub rule-puts : (v : ValueOver Handle M) → BodyGood D s1 told2 r (arguments args) v → FitsWithAnswer (over (prime_of D)) op (arguments args) v → (given : PrimOut O M) → given.fresh ≡ [] → out_value given.out ≡ Some (old v) → MayPut D s2 told2 op args given
-        rule-puts v d ends given no_fresh out =
+        pub rule-puts : Known D.category told2 (arguments args) → (v : ValueOver Handle M) → BodyGood D s1 told2 r (arguments args) v → FitsWithAnswer (over (prime_of D)) op (arguments args) v → (given : PrimOut O M) → given.fresh ≡ [] → out_value given.out ≡ Some (old v) → MayPut D s2 told2 op args given
+        rule-puts known v d ends given no_fresh out =
             let p = asks.says.0 in
             let same = some-plan s1.plan d.p p d.planned.is asks.says.1.is in
             let runs0 = subst (λ q. StepsGive (over (prime_of D)) (RunWithin D s1.rules q (bound q r.cost.head.0)) r.body.steps d.data_of r.body.answer (done d.out)) same d.runs in
@@ -216,6 +223,7 @@ module _ {X O M : Type 0} (D : OfferData O M) (s : BoardState X O M) (told : Han
               is = record {
                 data_of = d.data_of;
                 tells_arguments = d.tells_values;
+                are_data = known-data D told2 (arguments args) d.data_of known d.tells_values;
                 value = old v;
                 is_value = out;
                 out = d.out;

@@ -15,6 +15,7 @@ use Rattle.cap_ops.specs.Arrows.{ValueOver, over, arguments}
 use Rattle.cap_ops.specs.Mismatches.{HaveSorts, sort_of_argument, IsMismatch}
 use Rattle.cap_ops.specs.Told.{Known}
 use Rattle.cap_ops.specs.Primitives.{OfferData}
+use Rattle.cap_ops.proofs.Telling.{all-kept}
 use Rattle.cap_terms.specs.declared.body.Var.{Var}
 use Rattle.cap_terms.specs.declared.body.Step.TheVariants.{Call}
 use Rattle.cap_terms.specs.declared.body.Rule.{Rule}
@@ -23,7 +24,7 @@ use Rattle.cap_steps.specs.Slots.{IsArgument, AreArguments, IsAnswer}
 use Rattle.cap_board.specs.declared.refusals.CallRefusal.TheVariants.{Mismatch as MismatchRefusal}
 use Rattle.cap_board.specs.Board.{BoardState, Grows}
 use Rattle.cap_board.specs.Call.{depth, Ready, Chosen, Traced}
-use Rattle.cap_board.proofs.Told.{all-kept, tells-all-at, data-at}
+use Rattle.cap_board.proofs.Told.{tells-all-at, data-at}
 use Rattle.cap_board.proofs.LoopSays.{LoopSays}
 use Rattle.cap_board.proofs.StepsSay.{append-nil, depth-known}
 

@@ -3,14 +3,14 @@ use Rattle.std.proofs.Common.{◌≡◌, ℕ, List, ◌++◌, Option, drop}
 use Rattle.cap_names.specs.declared.identifiers.Handle.{Handle}
 use Rattle.cap_ops.specs.declared.plans.Plan.{Plan}
 use Rattle.cap_ops.specs.Arrows.{Between, ValueOver, over}
-use Rattle.cap_ops.specs.Told.{TellsAll, AreData}
+use Rattle.cap_ops.specs.Told.{TellsAll, AreData, StaysTold}
 use Rattle.cap_ops.specs.Primitives.{OfferData, prime_of}
 use Rattle.cap_terms.specs.declared.body.Rule.{Rule}
 use Rattle.cap_terms.specs.Run.{Outcome, StepsGive, ComesTo}
 use Rattle.cap_terms.specs.Ends.{EndsGive}
 use Rattle.cap_run.specs.Plans.{bound, StepsBelow}
 use Rattle.cap_run.specs.Runs.{RunWithin}
-use Rattle.cap_board.specs.Board.{Event, BoardState, Grows, Planned, StaysTold}
+use Rattle.cap_board.specs.Board.{Event, BoardState, Grows, Planned}
 use Rattle.cap_board.specs.Trace.{StepEnd, TraceWithin, StepsTrace}
 
 -- after i steps, with the values env: whatever the rest gives, the whole gives

@@ -12,6 +12,7 @@ use Rattle.cap_ops.specs.Values.{Value, none, Setting, FitsWithAnswer}
 use Rattle.cap_ops.specs.Arrows.{ValueOver, over, arguments, value_of}
 use Rattle.cap_ops.specs.Told.{Tells, TellsAll, Known}
 use Rattle.cap_ops.specs.Primitives.{OfferData, prime_of}
+use Rattle.cap_ops.proofs.Telling.{all-kept, all-same}
 use Rattle.cap_terms.specs.declared.body.Var.{Var}
 use Rattle.cap_terms.specs.declared.body.Step.{Step}
 use Rattle.cap_terms.specs.declared.body.Step.TheVariants.{Call, Src, Tgt, Part, MinusOne, Exists, Both, When, Tuple}
@@ -19,14 +20,15 @@ use Rattle.cap_terms.specs.Run.{done, Calls, all_at, has_none, StepGives}
 use Rattle.cap_terms.specs.Ends.{EndsGive}
 use Rattle.cap_run.specs.Plans.{bound, AreRules, IsTruePlan}
 use Rattle.cap_run.specs.Runs.{Run, RunWithin}
+use Rattle.cap_run.specs.Puts.{Good}
 use Rattle.cap_run.proofs.TruePlans.{plans-are-true}
 use Rattle.cap_run.proofs.RunLaws.{deeper}
 use Rattle.cap_steps.specs.Slots.{plain}
 use Rattle.cap_board.specs.declared.refusals.CallRefusal.TheVariants.{Mismatch, NotFinal, Missing, TooLarge, Full, NoMemory}
-use Rattle.cap_board.specs.Board.{BoardState, Grows, Good, Planned}
+use Rattle.cap_board.specs.Board.{BoardState, Grows, Planned}
 use Rattle.cap_board.specs.Trace.{CallEnd, StepEnd, EndsAs, Tracer, StepTrace, TraceWithin}
 use Rattle.cap_board.specs.Call.{depth, Traced, IsMissing, CallSays, Chosen, StepTraced, StepGood, StepSays}
-use Rattle.cap_board.proofs.Told.{all-kept, tells-all-at, all-same, same-none, tells-plain, datum-plain}
+use Rattle.cap_board.proofs.Told.{tells-all-at, same-none, tells-plain, datum-plain}
 use Rattle.cap_board.proofs.Traces.{trace-kept}
 
 pub append-nil : {A : Type 0} (xs : List A) → xs ++ [] ≡ xs

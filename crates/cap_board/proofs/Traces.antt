@@ -9,8 +9,9 @@ use Rattle.cap_ops.specs.declared.keys.PrimOut.{PrimOut}
 use Rattle.cap_ops.specs.declared.plans.Choice.TheVariants.{Prim, Rule as ByRule, Missing}
 use Rattle.cap_ops.specs.Values.{none}
 use Rattle.cap_ops.specs.Arrows.{ValueOver, arguments}
-use Rattle.cap_ops.specs.Told.{end_object}
+use Rattle.cap_ops.specs.Told.{StaysTold, end_object}
 use Rattle.cap_ops.specs.Primitives.{OfferData, prime_of, PrimAnswers, PrimIsLarge}
+use Rattle.cap_ops.proofs.Telling.{tells-kept, all-kept}
 use Rattle.cap_terms.specs.declared.body.Var.{Var}
 use Rattle.cap_terms.specs.declared.body.Step.{Step}
 use Rattle.cap_terms.specs.declared.body.Step.TheVariants.{Call, Src, Tgt, Part, MinusOne, Exists, Both, When, Tuple}
@@ -19,9 +20,8 @@ use Rattle.cap_terms.specs.Run.{all_at, has_none}
 use Rattle.cap_run.specs.Plans.{rule_at}
 use Rattle.cap_board.specs.declared.answers.Asked.{Asked}
 use Rattle.cap_board.specs.declared.answers.Asked.TheVariants.{Hit, Miss, NotFinal, Full}
-use Rattle.cap_board.specs.Board.{Event, StaysTold}
+use Rattle.cap_board.specs.Board.{Event}
 use Rattle.cap_board.specs.Trace.{CallEnd, StepEnd, Tracer, CallTrace, StepTrace, StepsTrace, RuleTrace, AfterAsk, TraceWithin}
-use Rattle.cap_board.proofs.Told.{tells-kept, all-kept}
 
 module _ {O M : Type 0} (p : ℕ) (S T : Tracer O M) (f : (op : ℕ) (args : List (Arg M)) (events : List (Event O M)) (end : CallEnd M) → S op args events end → T op args events end) where
   unless-kept : (b : Bool) (P Q Q' : Type 0) → (Q → Q') → MatchBool b P Q → MatchBool b P Q'
@@ -65,10 +65,12 @@ module _ {O M : Type 0} (D : OfferData O M) (rules : List Rule) (told told' : Ha
     out = d.out;
     tells = tells-kept (end_object told given.fresh) (end_object told' given.fresh) (end-kept given.fresh) d.value d.out d.tells;
     answers = d.answers;
+    within = d.within;
     fresh_is = d.fresh_is;
     fresh_objects = d.fresh_objects;
     is_datum = d.is_datum;
     fits = d.fits;
+    used = d.used;
   }
 
   pub large-kept : (op : ℕ) (args : List (Arg M)) (rows columns : ℕ) → PrimIsLarge D told op args rows columns → PrimIsLarge D told' op args rows columns

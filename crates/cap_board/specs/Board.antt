@@ -1,21 +1,15 @@
 -- What a board is: its category, its asks and puts with their answers, the objects told, and the plan once it is known; and what its answers say.
 use Rattle.std.specs.Prelude.{◌≡◌, ℕ, List, [], ◌∷◌, ◌++◌, Option, Some}
 use Rattle.cap_names.specs.declared.identifiers.Handle.{Handle}
-use Rattle.cap_ops.specs.declared.arrows.End.{End}
 use Rattle.cap_ops.specs.declared.keys.Arg.{Arg}
 use Rattle.cap_ops.specs.declared.keys.PrimOut.{PrimOut}
 use Rattle.cap_ops.specs.declared.keys.Value.{Value as Answer}
-use Rattle.cap_ops.specs.declared.plans.Choice.{Choice}
-use Rattle.cap_ops.specs.declared.plans.Choice.TheVariants.{Prim, Rule as ByRule, Missing}
 use Rattle.cap_ops.specs.declared.plans.Plan.{Plan}
-use Rattle.cap_ops.specs.Values.{FitsWithAnswer}
-use Rattle.cap_ops.specs.Arrows.{ValueOver, over, arguments, olds, value_of, out_value}
-use Rattle.cap_ops.specs.Told.{Tells, TellsAll, IsDatum, AreObjects, end_object}
-use Rattle.cap_ops.specs.Primitives.{OfferData, prime_of}
+use Rattle.cap_ops.specs.Told.{StaysTold}
+use Rattle.cap_ops.specs.Primitives.{OfferData}
 use Rattle.cap_terms.specs.declared.body.Rule.{Rule}
-use Rattle.cap_terms.specs.Run.{done}
 use Rattle.cap_run.specs.Plans.{choice, IsPlanOf}
-use Rattle.cap_run.specs.Runs.{Run}
+use Rattle.cap_run.specs.Puts.{Good, PutTrue}
 use Rattle.cap_board.specs.declared.answers.Asked.{Asked}
 use Rattle.cap_board.specs.declared.answers.Asked.TheVariants.{Hit, Miss}
 use Rattle.cap_board.specs.declared.answers.PutAnswer.{PutAnswer}
@@ -33,28 +27,12 @@ pub record BoardState (X O M : Type 0) : Type 0 where
   pub events : List (Event O M)
   pub plan : Option Plan
 
--- what was told stays
-abbrev pub StaysTold : {O : Type 0} → (Handle → Option O) → (Handle → Option O) → Type 0
-StaysTold {O} told told' = (h : Handle) (o : O) → told h ≡ Some o → told' h ≡ Some o
-
 -- offer and rules are the same, and what was told stays, and so does the plan
 pub record Grows {X O M : Type 0} (s : BoardState X O M) (told : Handle → Option O) (s' : BoardState X O M) (told' : Handle → Option O) : Type 0 where
   pub offer : s'.offer ≡ s.offer
   pub rules : s'.rules ≡ s.rules
   pub stays : StaysTold told told'
   pub plan : (p : Plan) → s.plan ≡ Some p → s'.plan ≡ Some p
-
--- v is the value of the key by the plan: its handles are told, its data are those of plain evaluation, each end that the signature gives is the argument's handle, and one object letter has one handle
-pub record Good {O M : Type 0} (D : OfferData O M) (rules : List Rule) (p : Plan) (told : Handle → Option O) (op : ℕ) (args : List (Arg M)) (v : Answer M) : Type 0 where
-  pub data_of : List (ValueOver O M)
-  pub tells_arguments : TellsAll told (arguments args) data_of
-  pub value : ValueOver Handle M
-  pub is_value : value_of v ≡ Some value
-  pub out : ValueOver O M
-  pub tells : Tells told value out
-  pub is_datum : IsDatum D.category out
-  pub runs : Run D rules p op data_of (done out)
-  pub fits : FitsWithAnswer (over (prime_of D)) op (arguments args) value
 
 -- the plan is known, and is the plan of registrations of offered primitives
 pub record Planned {O M : Type 0} (D : OfferData O M) (rules : List Rule) (known : Option Plan) (p : Plan) : Type 0 where
@@ -71,26 +49,6 @@ pub record Asks {X O M : Type 0} (D : OfferData O M) (s : BoardState X O M) (tol
   pub grows : Grows s told s' told'
   pub events : s'.events ≡ s.events ++ asked op args a ∷ []
   pub says : AskSays D s'.rules s'.plan told' op args a
-
--- the new objects of a result: the primitive's where the choice is the primitive, and none where it is a rule
-abbrev pub FreshBy : {O M : Type 0} → OfferData O M → Choice → ℕ → List (ValueOver O M) → List O → Type 0
-FreshBy D Prim op args fresh = fresh ≡ D.fresh op args
-FreshBy D (ByRule k) op args fresh = fresh ≡ []
-FreshBy D Missing op args fresh = ⊥
-
--- the result is the key's value by the plan, with the new objects of its choice
-pub record PutTrue {O M : Type 0} (D : OfferData O M) (rules : List Rule) (p : Plan) (told : Handle → Option O) (op : ℕ) (args : List (Arg M)) (given : PrimOut O M) : Type 0 where
-  pub data_of : List (ValueOver O M)
-  pub tells_arguments : TellsAll told (arguments args) data_of
-  pub value : ValueOver End M
-  pub is_value : out_value given.out ≡ Some value
-  pub out : ValueOver O M
-  pub tells : Tells (end_object told given.fresh) value out
-  pub is_datum : IsDatum D.category out
-  pub fresh_is : FreshBy D (choice p op) op data_of given.fresh
-  pub fresh_objects : AreObjects D.category given.fresh
-  pub runs : Run D rules p op data_of (done out)
-  pub fits : FitsWithAnswer (over (prime_of D)) op (olds (arguments args)) value
 
 -- the result may be put: a plan is known, and by it the put is true
 pub record MayPut {X O M : Type 0} (D : OfferData O M) (s : BoardState X O M) (told : Handle → Option O) (op : ℕ) (args : List (Arg M)) (given : PrimOut O M) : Type 0 where

@@ -17,12 +17,13 @@ use Rattle.cap_terms.specs.Run.{done, all_at, has_none, StepGives, StepsGive}
 use Rattle.cap_terms.specs.Ends.{EndsGive}
 use Rattle.cap_run.specs.Plans.{bound, AreRules, StepsBelow}
 use Rattle.cap_run.specs.Runs.{RunWithin}
+use Rattle.cap_run.specs.Puts.{Good}
 use Rattle.cap_board.specs.declared.answers.PutAnswer.TheVariants.{Entry, Full as PutFull}
 use Rattle.cap_board.specs.declared.refusals.CallRefusal.TheVariants.{Missing, Full, NoMemory}
 use Rattle.cap_steps.specs.declared.slots.Slot.{Slot}
 use Rattle.cap_steps.specs.Slots.{slot_value}
 use Rattle.cap_board.specs.declared.refusals.CallRefusal.{CallRefusal}
-use Rattle.cap_board.specs.Board.{Event, BoardState, Good, Planned, Puts}
+use Rattle.cap_board.specs.Board.{Event, BoardState, Planned, Puts}
 use Rattle.cap_board.specs.Trace.{CallEnd, StepEnd, StepTrace, StepsTrace, TraceWithin}
 
 -- how deep calls of an operation may nest, where the plan is known or not

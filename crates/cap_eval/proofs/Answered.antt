@@ -19,13 +19,14 @@ use Rattle.cap_terms.specs.declared.body.Step.TheVariants.{Call, Src, Tgt, Part,
 use Rattle.cap_terms.specs.declared.body.Var.{Var}
 use Rattle.cap_terms.specs.Run.{nth_from_one}
 use Rattle.cap_run.specs.Plans.{rule_at, AreRules, IsTruePlan}
+use Rattle.cap_run.specs.Puts.{Good}
 use Rattle.cap_run.proofs.TruePlans.{plans-are-true}
 use Rattle.cap_steps.specs.declared.slots.Slot.{Slot}
 use Rattle.cap_steps.specs.Slots.{slot_value, slots}
 use Rattle.cap_board.specs.declared.answers.Asked.TheVariants.{Hit, Miss, NotFinal, Full}
 use Rattle.cap_board.specs.declared.refusals.CallRefusal.{CallRefusal}
 use Rattle.cap_board.specs.declared.refusals.CallRefusal.TheVariants.{NotFinal as NotFinalRefusal, Missing as MissingRefusal, Full as FullRefusal}
-use Rattle.cap_board.specs.Board.{BoardState, Good, asked, Asks}
+use Rattle.cap_board.specs.Board.{BoardState, asked, Asks}
 use Rattle.cap_board.specs.Trace.{too_large}
 use Rattle.cap_board.specs.Call.{depth, CallSays}
 use Rattle.cap_board.proofs.StepsSay.{IsPlain}

@@ -12,20 +12,20 @@ ghost use Rattle.cap_board.specs.Board.{BoardState, Grows, MayPut};
 ghost use Rattle.cap_board.specs.Call.{Ready, Chosen, CallSays, BodySaysSlot, StepFits, StepSaysSlot, PutEnds};
 
 use cap_board::{Asked, Board, CallRefusal, PutAnswer};
+use cap_keys::copy_arguments;
 use cap_laws::CatFault;
 use cap_names::{Items, NoMemory, OpId, TooLarge};
 use cap_ops::{Arg, Choice, Key, Offer, PrimOut, Value, ends_fit};
 use cap_steps::{
-    Slot, any_nothing, arguments_at, copy_arguments, copy_at, out_of_slot, parameters, plain_step,
-    slot_of_value,
+    Slot, any_nothing, arguments_at, copy_at, out_of_slot, parameters, plain_step, slot_of_value,
 };
 use cap_terms::{Rule, RuleSet, Step};
 use std::alloc::Global;
 
 /// The value of an operation on arguments, with the asks and puts that it makes.
 pub fn call<C: Offer, B: Board<C>>(
-    board: &mut B,
     alloc: Global,
+    board: &mut B,
     offer: &C,
     rules: &RuleSet,
     op: OpId,
@@ -36,6 +36,7 @@ pub fn call<C: Offer, B: Board<C>>(
     requires known { Known (C.offered offer.now).category (B.told board.old) (arguments args.now) }
     requires holds { B.holds board.old }
     ensures holds { B.holds board.new }
+    ensures onward { B.onward board.old board.new }
     ensures grows { Grows (B.state board.old) (B.told board.old) (B.state board.new) (B.told board.new) }
     ensures says { CallSays (C.offered offer.now) (B.state board.old) (B.state board.new) (B.told board.new) op.0 args.now result }
 {
@@ -43,14 +44,14 @@ pub fn call<C: Offer, B: Board<C>>(
         op,
         args: Items::new(copy_arguments(alloc, args)?),
     };
-    value_of_key(board, alloc, offer, rules, &key)
+    value_of_key(alloc, board, offer, rules, &key)
 }
 
 /// The value of a key.
 #[cycle(eval)]
 fn value_of_key<C: Offer, B: Board<C>>(
-    board: &mut B,
     alloc: Global,
+    board: &mut B,
     offer: &C,
     rules: &RuleSet,
     key: &Key<C::M>,
@@ -60,6 +61,7 @@ fn value_of_key<C: Offer, B: Board<C>>(
     requires known { Known (C.offered offer.now).category (B.told board.old) (arguments key.now.args) }
     requires holds { B.holds board.old }
     ensures holds { B.holds board.new }
+    ensures onward { B.onward board.old board.new }
     ensures grows { Grows (B.state board.old) (B.told board.old) (B.state board.new) (B.told board.new) }
     ensures says { CallSays (C.offered offer.now) (B.state board.old) (B.state board.new) (B.told board.new) key.now.op.0 key.now.args result }
 {
@@ -74,7 +76,7 @@ fn value_of_key<C: Offer, B: Board<C>>(
         Asked::Miss(Choice::Missing) => Err(CallRefusal::Missing { op: key.op }),
         Asked::Miss(Choice::Prim) => {
             match offer.prim(alloc, key.op, key.args.as_slice(), board) {
-                Ok(out) => put_value::<C, B>(board, alloc, key, out),
+                Ok(out) => put_value::<C, B>(alloc, board, key, out),
                 Err(CatFault::TooLarge { rows, cols }) => {
                     Err(CallRefusal::TooLarge(TooLarge { rows, cols }))
                 }
@@ -83,27 +85,29 @@ fn value_of_key<C: Offer, B: Board<C>>(
         }
         Asked::Miss(Choice::Rule(number)) => {
             let rule = rules.rule(number);
-            let slot = run_rule(board, alloc, offer, rules, rule, key.args.as_slice())?;
+            let slot = run_rule(alloc, board, offer, rules, rule, key.args.as_slice())?;
             let out = PrimOut {
                 fresh: Items::new(Vec::new(alloc)),
                 out: out_of_slot(alloc, slot)?,
             };
-            put_value::<C, B>(board, alloc, key, out)
+            put_value::<C, B>(alloc, board, key, out)
         }
     }
 }
 
 /// What the put of a result answers.
 fn put_value<C: Offer, B: Board<C>>(
-    board: &mut B,
     alloc: Global,
+    board: &mut B,
     key: &Key<C::M>,
     out: PrimOut<C::O, C::M>,
 ) -> Result<Value<C::M>, CallRefusal>
     requires fits { Fits (over (prime_of (C.offered (B.state board.old).offer))) key.now.op.0 (arguments key.now.args) }
+    requires known { Known (C.offered (B.state board.old).offer).category (B.told board.old) (arguments key.now.args) }
     requires may { MayPut (C.offered (B.state board.old).offer) (B.state board.old) (B.told board.old) key.now.op.0 key.now.args out }
     requires holds { B.holds board.old }
     ensures holds { B.holds board.new }
+    ensures onward { B.onward board.old board.new }
     ensures grows { Grows (B.state board.old) (B.told board.old) (B.state board.new) (B.told board.new) }
     ensures says { PutEnds (C.offered (B.state board.old).offer) (B.state board.old) (B.told board.old) key.now.op.0 key.now.args out (B.state board.new) (B.told board.new) result }
 {
@@ -116,8 +120,8 @@ fn put_value<C: Offer, B: Board<C>>(
 /// The answer of a rule's body.
 #[cycle(eval)]
 fn run_rule<C: Offer, B: Board<C>>(
-    board: &mut B,
     alloc: Global,
+    board: &mut B,
     offer: &C,
     rules: &RuleSet,
     rule: &Rule,
@@ -130,12 +134,13 @@ fn run_rule<C: Offer, B: Board<C>>(
     requires known { Known (C.offered offer.now).category (B.told board.old) (arguments args.now) }
     requires holds { B.holds board.old }
     ensures holds { B.holds board.new }
+    ensures onward { B.onward board.old board.new }
     ensures grows { Grows (B.state board.old) (B.told board.old) (B.state board.new) (B.told board.new) }
     ensures says { BodySaysSlot (C.offered offer.now) (B.state board.old) (B.state board.new) (B.told board.new) rule.now (arguments args.now) result }
 {
     let mut env = parameters(alloc, args)?;
     for step in rule.body.steps.as_slice() {
-        let value = run_step(board, alloc, offer, rules, rule.cost.head, step, &env)?;
+        let value = run_step(alloc, board, offer, rules, rule.cost.head, step, &env)?;
         env.push(value)?;
     }
     Ok(copy_at(alloc, &env, rule.body.answer)?)
@@ -144,8 +149,8 @@ fn run_rule<C: Offer, B: Board<C>>(
 /// The value of one step of a body.
 #[cycle(eval)]
 fn run_step<C: Offer, B: Board<C>>(
-    board: &mut B,
     alloc: Global,
+    board: &mut B,
     offer: &C,
     rules: &RuleSet,
     head: OpId,
@@ -159,6 +164,7 @@ fn run_step<C: Offer, B: Board<C>>(
     requires known { Known (C.offered offer.now).category (B.told board.old) (slots env.now) }
     requires holds { B.holds board.old }
     ensures holds { B.holds board.new }
+    ensures onward { B.onward board.old board.new }
     ensures grows { Grows (B.state board.old) (B.told board.old) (B.state board.new) (B.told board.new) }
     ensures says { StepSaysSlot (C.offered offer.now) (B.state board.old) (B.state board.new) (B.told board.new) head.0 step.now (slots env.now) result }
 {
@@ -171,7 +177,7 @@ fn run_step<C: Offer, B: Board<C>>(
                 op: *op,
                 args: Items::new(arguments_at(alloc, env, args.as_slice())?),
             };
-            let value = value_of_key(board, alloc, offer, rules, &key)?;
+            let value = value_of_key(alloc, board, offer, rules, &key)?;
             Ok(slot_of_value(value))
         }
         _ => Ok(plain_step(alloc, offer.field().prime() as u16, step, env)?),

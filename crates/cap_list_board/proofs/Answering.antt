@@ -1,24 +1,30 @@
 -- The lists' answers are a board's.
 use Rattle.std.proofs.Common.{◌≡◌, ℕ, List, [], ◌∷◌, ◌++◌, Result, Ok, Err, length, sym, subst, ◌∙◌, ap, refl, inl, inr}
-use Rattle.std.specs.Prelude.{IfOk, OnErr}
+use Rattle.std.specs.Prelude.{Some, slice_get, IfOk, OnErr}
 use Rattle.cap_ops.specs.declared.keys.Key.{Key}
 use Rattle.cap_ops.specs.declared.keys.PrimOut.{PrimOut}
 use Rattle.cap_ops.specs.declared.keys.Value.{Value as Answer}
+use Rattle.cap_ops.specs.Told.{told_in}
 use Rattle.cap_ops.specs.Primitives.{OfferData}
+use Rattle.cap_ops.proofs.Places.{get-more}
 use Rattle.cap_board.specs.declared.answers.Asked.{Asked}
 use Rattle.cap_board.specs.declared.answers.Asked.TheVariants.{Hit, Miss, NotFinal, Full}
 use Rattle.cap_board.specs.declared.answers.PutAnswer.{PutAnswer}
 use Rattle.cap_board.specs.declared.answers.PutAnswer.TheVariants.{Entry as Kept, Full as PutFull}
-use Rattle.cap_board.specs.Board.{AskSays, Asks, Puts, MayPut, Good}
+use Rattle.cap_run.specs.Puts.{Good}
+use Rattle.cap_run.proofs.Puts.{put-good}
+use Rattle.cap_board.specs.Board.{AskSays, Asks, Puts, MayPut}
 use Rattle.cap_settle.specs.Settled.{settled}
+use Rattle.cap_settle.proofs.Fitting.{told-more}
 use Rattle.cap_list_board.specs.declared.entries.Entry.{Entry}
 use Rattle.cap_list_board.specs.declared.entries.Seen.{Seen}
 use Rattle.cap_list_board.specs.declared.entries.Seen.TheVariants.{Ask, Put}
-use Rattle.cap_list_board.specs.Lists.{Lists, state_of, told_in, event_of, IsKept, IsNew}
+use Rattle.cap_list_board.specs.Lists.{Lists, state_of, event_of, IsKept, IsNew}
 use Rattle.cap_list_board.specs.Answers.{AskAnswer, ListAsks, HasRoom, HasNoRoom, with_entry, PutAnswers, ListPuts}
 use Rattle.cap_list_board.specs.Holds.{Holds}
+use Rattle.cap_list_board.specs.Onward.{GoesOn, goes-on-none, goes-on-more}
 use Rattle.cap_list_board.proofs.InLists.{map-snoc}
-use Rattle.cap_list_board.proofs.Growing.{told-more, put-good, more-holds, entry-holds}
+use Rattle.cap_list_board.proofs.Growing.{more-holds, entry-holds}
 
 pub ok-then : {A E : Type 0} (P Q : A → Type 0) (r : Result A E) → IfOk r P → ((a : A) → P a → Q a) → IfOk r Q
 ok-then P Q (Ok a) h f = f a h
@@ -118,6 +124,31 @@ module _ {X O M : Type 0} (D : OfferData O M) where
 
       pub list-puts-hold : (a : PutAnswer M) (s' : Lists X O M) → ListPuts s key out a s' → Holds D s'
       list-puts-hold a s' L = subst (Holds D) (sym L.added) (seen-holds L.after (s.seen ++ Put key out a ∷ []) (after-holds a L.after L.answer))
+
+-- the lists go on
+module _ {X O M : Type 0} (s : Lists X O M) (key : Key M) where
+  seen-onward : (t : Lists X O M) (one : Seen O M) → t.seen ≡ s.seen → GoesOn t (record t { seen = s.seen ++ one ∷ [] })
+  seen-onward t one same = record { limit = refl; objects = λ i x e. e; entries = λ i x e. e; seen = λ i x e. get-more s.seen (one ∷ []) i x (subst (λ xs. slice_get xs i ≡ Some x) same e) }
+
+  pub asks-onward : (a : Asked M) (s' : Lists X O M) → ListAsks s key a s' → GoesOn s s'
+  asks-onward a s' L = subst (GoesOn s) (sym L.added) (seen-onward s (Ask key a) refl)
+
+  entry-onward : (out : PrimOut O M) → GoesOn s (with_entry s key out)
+  entry-onward out = record { limit = refl; objects = λ i x e. get-more s.objects out.fresh i x e; entries = λ i x e. get-more s.entries (record { key = key; value = settled (length s.objects) out.out } ∷ []) i x e; seen = λ i x e. e }
+
+  after-onward : (out : PrimOut O M) (a : PutAnswer M) (t : Lists X O M) → PutAnswers s key out a t → GoesOn s t
+  after-onward out (Kept v) t A = elim A [ inl k ↦ subst (GoesOn s) (sym k.1) (goes-on-none s) | inr k ↦ subst (GoesOn s) (sym k.3) (entry-onward out) ]
+  after-onward out (PutFull entries cells) t A = subst (GoesOn s) (sym A.3) (goes-on-none s)
+
+  after-seen : (out : PrimOut O M) (a : PutAnswer M) (t : Lists X O M) → PutAnswers s key out a t → t.seen ≡ s.seen
+  after-seen out (Kept v) t A = elim A [ inl k ↦ ap (λ x. x.seen) k.1 | inr k ↦ ap (λ x. x.seen) k.3 ]
+  after-seen out (PutFull entries cells) t A = ap (λ x. x.seen) A.3
+
+  pub puts-onward : (out : PrimOut O M) (a : PutAnswer M) (s' : Lists X O M) → ListPuts s key out a s' → GoesOn s s'
+  puts-onward out a s' L = subst (GoesOn s) (sym L.added) (goes-on-more s L.after (record L.after { seen = s.seen ++ Put key out a ∷ [] }) (after-onward out a L.after L.answer) (seen-onward L.after (Put key out a) (after-seen out a L.after L.answer)))
+
+  pub same-onward : (s' : Lists X O M) → s' ≡ s → GoesOn s s'
+  same-onward s' e = subst (GoesOn s) (sym e) (goes-on-none s)
 
 -- the offer stays
 module _ {X O M : Type 0} (s : Lists X O M) (key : Key M) where

@@ -7,16 +7,6 @@ use Rattle.cap_ops.proofs.Places.{none≢some}
 pub some-inj : {A : Type 0} (x y : A) → Some x ≡ Some y → x ≡ y
 some-inj x y e = cc
 
-pub get-more : {A : Type 0} (xs ys : List A) (i : ℕ) (x : A) → slice_get xs i ≡ Some x → slice_get (xs ++ ys) i ≡ Some x
-get-more [] ys i x e = absurd (none≢some e)
-get-more (a ∷ xs) ys zero x e = e
-get-more (a ∷ xs) ys (suc i) x e = get-more xs ys i x e
-
-pub get-behind : {A : Type 0} (xs ys : List A) (n k : ℕ) → n ≡ length xs + k → slice_get (xs ++ ys) n ≡ slice_get ys k
-get-behind [] ys n k e = let same : n ≡ k = omega (arith, e) in ap (slice_get ys) same
-get-behind (a ∷ xs) ys zero k e = absurd (omega (arith, e))
-get-behind (a ∷ xs) ys (suc n) k e = get-behind xs ys n k (omega (arith, e))
-
 -- a place in two lists is one in the first, or one in the second
 pub get-apart : {A : Type 0} (xs ys : List A) (i : ℕ) (x : A) → slice_get (xs ++ ys) i ≡ Some x → (slice_get xs i ≡ Some x) ⊎ ((k : ℕ) × (i ≡ length xs + k) × (slice_get ys k ≡ Some x))
 get-apart [] ys i x e = inr (i, omega arith, e)

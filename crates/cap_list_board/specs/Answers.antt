@@ -3,7 +3,7 @@ use Rattle.std.specs.Prelude.{◌≡◌, ◌+◌, ◌^◌, ◌<◌, ◌≤◌, [
 use Rattle.cap_ops.specs.declared.keys.Key.{Key}
 use Rattle.cap_ops.specs.declared.keys.PrimOut.{PrimOut}
 use Rattle.cap_ops.specs.declared.plans.Plan.{Plan}
-use Rattle.cap_run.specs.Plans.{choice}
+use Rattle.cap_ops.specs.Derivations.{choice}
 use Rattle.cap_board.specs.declared.answers.Asked.{Asked}
 use Rattle.cap_board.specs.declared.answers.Asked.TheVariants.{Hit, Miss, NotFinal, Full}
 use Rattle.cap_board.specs.declared.answers.PutAnswer.{PutAnswer}

@@ -1,12 +1,13 @@
--- What holds of a board that is a list, and which registrations are offered.
-use Rattle.std.specs.Prelude.{◌≡◌, ℕ, ◌+◌, ◌^◌, ◌<◌, ◌≤◌, List, Option, Some, None, IsSome, length, slice_get}
-use Rattle.std.specs.List.{slice_index_or}
+-- What holds of a board that is a list.
+use Rattle.std.specs.Prelude.{◌≡◌, ℕ, ◌^◌, ◌<◌, ◌≤◌, Some, length, slice_get}
 use Rattle.cap_ops.specs.declared.plans.Plan.{Plan}
+use Rattle.cap_ops.specs.Told.{told_in}
 use Rattle.cap_ops.specs.Primitives.{OfferData}
 use Rattle.cap_run.specs.Plans.{IsPlanOf}
-use Rattle.cap_board.specs.Board.{Planned, Good, ToldObjects}
+use Rattle.cap_run.specs.Puts.{Good}
+use Rattle.cap_board.specs.Board.{Planned, ToldObjects}
 use Rattle.cap_list_board.specs.declared.entries.Entry.{Entry}
-use Rattle.cap_list_board.specs.Lists.{Lists, told_in}
+use Rattle.cap_list_board.specs.Lists.{Lists}
 
 -- the entry's value is its key's value by the known plan
 pub record IsGoodEntry {X O M : Type 0} (D : OfferData O M) (s : Lists X O M) (e : Entry M) : Type 0 where
@@ -22,7 +23,3 @@ pub record Holds {X O M : Type 0} (D : OfferData O M) (s : Lists X O M) : Type 0
   pub entries : (place : ℕ) (e : Entry M) → slice_get s.entries place ≡ Some e → IsGoodEntry D s e
   pub few : length s.entries ≤ s.limit
   pub once : (i j : ℕ) (d e : Entry M) → slice_get s.entries i ≡ Some d → slice_get s.entries j ≡ Some e → d.key ≡ e.key → i ≡ j
-
--- each registered operation is offered; the operation with number n stands at place n - 1
-abbrev pub AreOffered : {O M : Type 0} → OfferData O M → List (Option ℕ) → Type 0
-AreOffered D weights = (op n : ℕ) → slice_index_or weights op None ≡ Some n → IsSome (D.weight (op + 1))

@@ -1,4 +1,5 @@
 pub mod Lists
 pub mod Answers
 pub mod Holds
+pub mod Onward
 pub mod Benches

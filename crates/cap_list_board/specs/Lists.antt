@@ -1,6 +1,5 @@
 -- What a board that is a list has, and what it shows of it.
 use Rattle.std.specs.Prelude.{◌≡◌, ◌≢◌, ℕ, List, [], Option, Some, None, map, slice_get}
-use Rattle.cap_names.specs.declared.identifiers.Handle.{Handle}
 use Rattle.cap_ops.specs.declared.keys.Key.{Key}
 use Rattle.cap_ops.specs.declared.keys.Value.{Value as Answer}
 use Rattle.cap_ops.specs.declared.plans.Plan.{Plan}
@@ -32,10 +31,6 @@ event_of (Put key out answer) = kept key.op.0 key.args out answer
 -- what the board has besides its objects
 abbrev pub state_of : {X O M : Type 0} → Lists X O M → BoardState X O M
 state_of s = record { offer = s.offer; rules = s.rules; events = map event_of s.seen; plan = s.plan }
-
--- a handle is a place in the list of the objects told
-abbrev pub told_in : {O : Type 0} → List O → Handle → Option O
-told_in objects h = slice_get objects h.0
 
 -- the entry at some place has this key and this value
 pub record IsKept {M : Type 0} (entries : List (Entry M)) (key : Key M) (v : Answer M) : Type 0 where

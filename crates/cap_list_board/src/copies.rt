@@ -1,4 +1,4 @@
-// Copies of answers and of objects.
+// Copies of answers.
 ghost use Rattle.std.specs.Prelude.{◌≡◌, IfOk};
 
 use cap_board::Asked;
@@ -20,15 +20,4 @@ pub(crate) fn copy_answer<M: Datum>(alloc: Global, answer: &Asked<M>) -> Result<
             cells: *cells,
         }),
     }
-}
-
-/// Equal objects.
-pub(crate) fn copy_objects<O: Datum>(alloc: Global, objects: &[O]) -> Result<Vec<O>, NoMemory>
-    ensures { IfOk result (λ copy. copy.items ≡ objects.now) }
-{
-    let mut copy = Vec::new(alloc);
-    for object in objects {
-        copy.push(object.copy(alloc)?)?;
-    }
-    Ok(copy)
 }

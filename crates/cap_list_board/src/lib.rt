@@ -7,6 +7,7 @@ mod entries;
 mod list_board;
 mod offered;
 mod places;
+mod refusals;
 #[cfg(test)]
 mod tests;
 
@@ -14,3 +15,4 @@ pub use cap_board::{Asked, Board, PutAnswer};
 pub use entries::{Entry, Seen};
 pub use list_board::ListBoard;
 pub use offered::are_offered;
+pub use refusals::DeclareRefusal;

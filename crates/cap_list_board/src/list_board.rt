@@ -1,22 +1,24 @@
 // The board that is a list.
-ghost use Rattle.std.specs.Prelude.{◌≡◌, ◌∷◌, [], ◌++◌, ◌+◌, ◌^◌, ◌<◌, ◌≤◌, length, IfOk, OnOk, OnErr, MatchBool};
+ghost use Rattle.std.specs.Prelude.{◌≡◌, ◌↔◌, ◌∷◌, [], ◌++◌, ◌+◌, ◌^◌, ◌<◌, ◌≤◌, length, Err, IfOk, OnOk, OnErr, MatchBool};
 ghost use Rattle.cap_ops.specs.Derivations.{ArePlannable, IsPlan, means};
 ghost use Rattle.cap_ops.specs.Ends.{IsOperation};
+ghost use Rattle.cap_ops.specs.Primitives.{AreOffered};
 ghost use Rattle.cap_ops.specs.declared.plans.Plan.{Plan};
 ghost use Rattle.cap_run.specs.Plans.{costs_of};
 ghost use Rattle.cap_settle.specs.Settled.{settled, OutFits};
 ghost use Rattle.cap_list_board.specs.Lists.{empty_lists, IsEntryAt, IsKept};
 ghost use Rattle.cap_list_board.specs.Answers.{AskAnswer, ListAsks, HasRoom, HasNoRoom, with_entry, ListPuts};
-ghost use Rattle.cap_list_board.specs.Holds.{Holds, AreOffered};
+ghost use Rattle.cap_list_board.specs.Holds.{Holds};
 ghost use Rattle.cap_list_board.specs.declared.entries.Seen.TheVariants.{Put as seen_put};
 
-use crate::copies::{copy_answer, copy_objects};
+use crate::copies::copy_answer;
 use crate::entries::{Entry, Seen};
-use crate::places::{choice_of, place_of, push_reserved};
+use crate::places::{place_of, push_reserved};
+use crate::refusals::DeclareRefusal;
 use cap_board::{Asked, PutAnswer};
-use cap_keys::{copy_key, copy_value};
+use cap_keys::{copy_key, copy_objects, copy_value};
 use cap_names::{Handle, NoMemory};
-use cap_ops::{Key, Offer, Plan, PrimOut, Regs, RuleCost, Value};
+use cap_ops::{Key, Offer, Plan, PrimOut, Regs, RuleCost, Value, choice_of};
 use cap_plan::plan;
 use cap_settle::settle;
 use cap_terms::RuleSet;
@@ -74,20 +76,23 @@ impl<C: Offer> ListBoard<C> {
         self.plan = Some(plan(regs, costs, kind));
     }
 
-    /// Tells an object of the category, and answers its handle, which is the next. No memory also where no handle is left.
-    pub fn declare(&mut self, object: C::O) -> Result<Handle, NoMemory>
+    /// Tells an object of the category, and answers its handle, which is the next, where one is left.
+    pub fn declare(&mut self, object: C::O) -> Result<Handle, DeclareRefusal>
         requires is_object { (C.offered self.old.offer).category.is_object object }
         requires holds { Holds (C.offered self.old.offer) self.old }
         ensures holds { Holds (C.offered self.new.offer) self.new }
         ensures told { IfOk result (λ h. (h.0 ≡ length self.old.objects) × (self.new ≡ record self.old { objects = self.old.objects ++ object ∷ [] })) }
         ensures err { OnErr result (self.new ≡ self.old) }
+        ensures no_handle { (result ≡ Err DeclareRefusal.NoHandle) ↔ (2 ^ 32 ≤ length self.old.objects + 1) }
     {
         let place = self.objects().len();
         if place >= 4_294_967_295 {
-            return Err(NoMemory);
+            return Err(DeclareRefusal::NoHandle);
         }
-        self.add_object(object)?;
-        Ok(Handle(place as u32))
+        match self.add_object(object) {
+            Ok(()) => Ok(Handle(place as u32)),
+            Err(NoMemory) => Err(DeclareRefusal::NoMemory),
+        }
     }
 
     /// Adds an object to those that were told.

@@ -1,6 +1,6 @@
 // Whether registrations are of offered primitives.
 ghost use Rattle.std.specs.Prelude.{◌≡◌, ◌↔◌, ◌≤◌, length, IsTrue};
-ghost use Rattle.cap_list_board.specs.Holds.{AreOffered};
+ghost use Rattle.cap_ops.specs.Primitives.{AreOffered};
 
 use cap_names::OpId;
 use cap_ops::{Offer, Regs};

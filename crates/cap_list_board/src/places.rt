@@ -1,13 +1,10 @@
-// Where a key is kept, what a plan chooses, and a place that was reserved.
+// Where a key is kept, and a place that was reserved.
 ghost use Rattle.std.specs.Prelude.{◌≡◌, ◌∷◌, [], ◌++◌, ◌<◌, MatchOption, vec_len, vec_capacity};
-ghost use Rattle.cap_ops.specs.Ends.{IsOperation};
-ghost use Rattle.cap_run.specs.Plans.{choice};
 ghost use Rattle.cap_list_board.specs.Lists.{IsEntryAt, IsNew};
 
 use crate::entries::Entry;
 use cap_keys::same_key;
-use cap_names::OpId;
-use cap_ops::{Choice, Datum, Key, Plan};
+use cap_ops::{Datum, Key};
 
 /// The place of the first entry with a key.
 pub(crate) fn place_of<M: Datum>(entries: &[Entry<M>], key: &Key<M>) -> Option<usize>
@@ -19,14 +16,6 @@ pub(crate) fn place_of<M: Datum>(entries: &[Entry<M>], key: &Key<M>) -> Option<u
         }
     }
     None
-}
-
-/// What the plan does an operation by.
-pub(crate) fn choice_of(plan: &Plan, op: OpId) -> Choice
-    requires { IsOperation op.0 }
-    ensures { result ≡ choice plan.now op.0 }
-{
-    plan.choices[op.0 as usize - 1]
 }
 
 /// Puts an element behind the others, where room was reserved.

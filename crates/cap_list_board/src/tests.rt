@@ -7,19 +7,20 @@ ghost use Rattle.cap_list_board.specs.Benches.{IsBench};
 
 use benches::{Bench, answer, assert_is, counts, final_bench, morphism, object, open};
 use cap_board::CallRefusal;
+use cap_data::MorData;
 use cap_names::{Handle, TooLarge};
 use cap_ops::operations::{
     COKERNEL, COMPOSE, DIRECT_SUM, IDENTITY, INVERSE, IS_MONO, PULLBACK, SECTION,
 };
 use cap_ops::{Arg, Mismatch, Offer, Value};
-use cap_small_offer::{Entry, SmallOffer};
+use cap_vec_offer::VecOffer;
 use std::alloc::Global;
 use std::process::Abort;
 
 /// The pullback of [1; 1] and [1], of objects of dimensions 2, 1 and 1 with the handles 0, 1 and 2.
-fn pullback(rt: &impl Abort, alloc: Global, b: &mut Bench) -> Result<Value<Entry>, CallRefusal>
-    requires { IsBench ⟦<SmallOffer as Offer>⟧.offered b.old.board b.old.offer b.old.rules }
-    ensures { IsBench ⟦<SmallOffer as Offer>⟧.offered b.new.board b.new.offer b.new.rules }
+fn pullback(rt: &impl Abort, alloc: Global, b: &mut Bench) -> Result<Value<MorData>, CallRefusal>
+    requires { IsBench ⟦<VecOffer as Offer>⟧.offered b.old.board b.old.offer b.old.rules }
+    ensures { IsBench ⟦<VecOffer as Offer>⟧.offered b.new.board b.new.offer b.new.rules }
 {
     let f = morphism(rt, alloc, b, Handle(0), Handle(2), &[1, 1]);
     let g = morphism(rt, alloc, b, Handle(1), Handle(2), &[1]);
@@ -28,7 +29,7 @@ fn pullback(rt: &impl Abort, alloc: Global, b: &mut Bench) -> Result<Value<Entry
 
 /// The pair [1 0; 0 1] and [1; 1] out of the object 4: for h = [1; 1; 4] on the sum of dimension 3 the rows
 /// x with x·h = 0 are those with x1 + x2 = x3, whose reduced basis is (1 0 1), (0 1 1).
-fn assert_is_pullback(rt: &impl Abort, value: &Value<Entry>) {
+fn assert_is_pullback(rt: &impl Abort, value: &Value<MorData>) {
     match value {
         Value::Many(arrows) => match arrows.as_slice() {
             [p, q] => {
@@ -43,7 +44,7 @@ fn assert_is_pullback(rt: &impl Abort, value: &Value<Entry>) {
 
 /// A board with objects of dimensions 2, 1 and 1.
 fn three_objects(rt: &impl Abort, alloc: Global, limit: u32) -> Bench
-    ensures { IsBench ⟦<SmallOffer as Offer>⟧.offered result.board result.offer result.rules }
+    ensures { IsBench ⟦<VecOffer as Offer>⟧.offered result.board result.offer result.rules }
 {
     let mut b = final_bench(rt, alloc, limit);
     for size in [2, 1, 1] {
@@ -73,7 +74,7 @@ fn on_one(
     rows: u32,
     cols: u32,
     cells: &[u16],
-) -> Result<Value<Entry>, CallRefusal> {
+) -> Result<Value<MorData>, CallRefusal> {
     let mut b = final_bench(rt, alloc, 100);
     let source = object(rt, &mut b, rows);
     let target = object(rt, &mut b, cols);
@@ -98,7 +99,7 @@ fn a_row_is_mono_and_a_column_is_not(rt: HostRuntime) {
 /// Asserts that the answer is this morphism.
 fn assert_one(
     rt: &impl Abort,
-    outcome: &Result<Value<Entry>, CallRefusal>,
+    outcome: &Result<Value<MorData>, CallRefusal>,
     src: u32,
     tgt: u32,
     cells: &[u16],

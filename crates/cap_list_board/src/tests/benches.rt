@@ -9,23 +9,23 @@ ghost use Rattle.cap_list_board.specs.Benches.{IsBench};
 use super::known::are_known;
 use crate::{ListBoard, are_offered};
 use cap_board::CallRefusal;
+use cap_data::{MorData, ObjData};
 use cap_eval::call;
 use cap_field::Field;
 use cap_matrix::Matrix;
 use cap_names::{Handle, OpId};
 use cap_ops::{Arg, Arrow, Offer, Regs, Value};
 use cap_rules::{costs, rules};
-use cap_small_offer::{Dimension, Entry, SmallOffer};
 use cap_terms::RuleSet;
-use cap_vec::VecMor;
+use cap_vec_offer::VecOffer;
 use std::alloc::Global;
 use std::process::Abort;
 
 /// A board, its offer and its rules.
 #[derive(Drop)]
 pub struct Bench {
-    pub board: ListBoard<SmallOffer>,
-    pub offer: SmallOffer,
+    pub board: ListBoard<VecOffer>,
+    pub offer: VecOffer,
     pub rules: RuleSet,
 }
 
@@ -78,13 +78,13 @@ pub fn five(rt: &impl Abort) -> Field
 
 /// A board that isn't final.
 pub fn open(rt: &impl Abort, alloc: Global, limit: u32) -> Bench
-    ensures is { IsBench ⟦<SmallOffer as Offer>⟧.offered result.board result.offer result.rules }
+    ensures is { IsBench ⟦<VecOffer as Offer>⟧.offered result.board result.offer result.rules }
     ensures open { result.board.plan ≡ None }
     ensures rules { result.rules ≡ rule_table }
 {
     let field = five(rt);
-    let first = SmallOffer::new(field);
-    let offer = SmallOffer::new(field);
+    let first = VecOffer::new(field);
+    let offer = VecOffer::new(field);
     let board_rules = rules(alloc).expect(rt, "room for the rules");
     let call_rules = rules(alloc).expect(rt, "room for the rules");
     let board = ListBoard::new(alloc, first, board_rules, limit);
@@ -97,10 +97,10 @@ pub fn open(rt: &impl Abort, alloc: Global, limit: u32) -> Bench
 
 /// Makes a board final.
 pub fn finalise(rt: &impl Abort, b: &mut Bench)
-    requires is { IsBench ⟦<SmallOffer as Offer>⟧.offered b.old.board b.old.offer b.old.rules }
+    requires is { IsBench ⟦<VecOffer as Offer>⟧.offered b.old.board b.old.offer b.old.rules }
     requires open { b.old.board.plan ≡ None }
     requires rules { b.old.rules ≡ rule_table }
-    ensures { IsBench ⟦<SmallOffer as Offer>⟧.offered b.new.board b.new.offer b.new.rules }
+    ensures { IsBench ⟦<VecOffer as Offer>⟧.offered b.new.board b.new.offer b.new.rules }
 {
     let regs = registered();
     if !are_offered(&b.offer, &regs) {
@@ -111,7 +111,7 @@ pub fn finalise(rt: &impl Abort, b: &mut Bench)
 
 /// A final board.
 pub fn final_bench(rt: &impl Abort, alloc: Global, limit: u32) -> Bench
-    ensures { IsBench ⟦<SmallOffer as Offer>⟧.offered result.board result.offer result.rules }
+    ensures { IsBench ⟦<VecOffer as Offer>⟧.offered result.board result.offer result.rules }
 {
     let mut b = open(rt, alloc, limit);
     finalise(rt, &mut b);
@@ -120,16 +120,16 @@ pub fn final_bench(rt: &impl Abort, alloc: Global, limit: u32) -> Bench
 
 /// Declares an object.
 pub fn object(rt: &impl Abort, b: &mut Bench, size: u32) -> Handle
-    requires { IsBench ⟦<SmallOffer as Offer>⟧.offered b.old.board b.old.offer b.old.rules }
-    ensures { IsBench ⟦<SmallOffer as Offer>⟧.offered b.new.board b.new.offer b.new.rules }
+    requires { IsBench ⟦<VecOffer as Offer>⟧.offered b.old.board b.old.offer b.old.rules }
+    ensures { IsBench ⟦<VecOffer as Offer>⟧.offered b.new.board b.new.offer b.new.rules }
 {
     b.board
-        .declare(Dimension::new(size))
+        .declare(ObjData::Dim(size))
         .expect(rt, "room for the object")
 }
 
 /// The matrix over F_5 with these cells, row after row.
-fn matrix(rt: &impl Abort, alloc: Global, rows: u32, cols: u32, cells: &[u16]) -> VecMor {
+fn matrix(rt: &impl Abort, alloc: Global, rows: u32, cols: u32, cells: &[u16]) -> Matrix {
     let field = five(rt);
     let mut m = Matrix::zero(alloc, field, rows, cols).expect(rt, "room for the matrix");
     for i in 0..rows {
@@ -140,7 +140,17 @@ fn matrix(rt: &impl Abort, alloc: Global, rows: u32, cols: u32, cells: &[u16]) -
             m.set(i, j, cell);
         }
     }
-    VecMor::new(m)
+    m
+}
+
+/// The dimension of an object of the board.
+fn dimension(rt: &impl Abort, b: &Bench, h: Handle) -> u32 {
+    let objects = b.board.objects();
+    assert!(rt; (h.0 as usize) < objects.len());
+    match &objects[h.0 as usize] {
+        ObjData::Dim(n) => *n,
+        _ => panic!(rt; "an object is a dimension"),
+    }
 }
 
 /// The morphism between these objects whose matrix has these cells, row after row.
@@ -151,16 +161,13 @@ pub fn morphism(
     src: Handle,
     tgt: Handle,
     cells: &[u16],
-) -> Arrow<Entry> {
-    let objects = b.board.objects();
-    assert!(rt; (src.0 as usize) < objects.len());
-    assert!(rt; (tgt.0 as usize) < objects.len());
-    let rows = *objects[src.0 as usize].size();
-    let cols = *objects[tgt.0 as usize].size();
+) -> Arrow<MorData> {
+    let rows = dimension(rt, b, src);
+    let cols = dimension(rt, b, tgt);
     Arrow {
         src,
         tgt,
-        value: Entry::new(matrix(rt, alloc, rows, cols, cells)),
+        value: MorData::Mat(matrix(rt, alloc, rows, cols, cells)),
     }
 }
 
@@ -170,18 +177,18 @@ pub fn answer(
     alloc: Global,
     b: &mut Bench,
     op: OpId,
-    args: &[Arg<Entry>],
-) -> Result<Value<Entry>, CallRefusal>
+    args: &[Arg<MorData>],
+) -> Result<Value<MorData>, CallRefusal>
     requires sorts { HaveSorts op.0 args.now }
-    requires is { IsBench ⟦<SmallOffer as Offer>⟧.offered b.old.board b.old.offer b.old.rules }
-    ensures { IsBench ⟦<SmallOffer as Offer>⟧.offered b.new.board b.new.offer b.new.rules }
+    requires is { IsBench ⟦<VecOffer as Offer>⟧.offered b.old.board b.old.offer b.old.rules }
+    ensures { IsBench ⟦<VecOffer as Offer>⟧.offered b.new.board b.new.offer b.new.rules }
 {
     let field = b.offer.field();
     assert!(rt;
         are_known(b, field, args),
         "the arguments are data of the board"
     );
-    call(&mut b.board, alloc, &b.offer, &b.rules, op, args)
+    call(alloc, &mut b.board, &b.offer, &b.rules, op, args)
 }
 
 /// How many objects, entries, and asks and puts the board has.
@@ -194,8 +201,11 @@ pub fn counts(b: &Bench) -> (usize, usize, usize) {
 }
 
 /// Asserts what a morphism is: its ends, and the cells of its matrix.
-pub fn assert_is(rt: &impl Abort, f: &Arrow<Entry>, src: u32, tgt: u32, cells: &[u16]) {
+pub fn assert_is(rt: &impl Abort, f: &Arrow<MorData>, src: u32, tgt: u32, cells: &[u16]) {
     assert_eq!(rt; f.src, Handle(src));
     assert_eq!(rt; f.tgt, Handle(tgt));
-    assert!(rt; f.value.matrix().matrix().cells() == cells);
+    match &f.value {
+        MorData::Mat(m) => assert!(rt; m.cells() == cells),
+        _ => panic!(rt; "a morphism is a matrix"),
+    }
 }

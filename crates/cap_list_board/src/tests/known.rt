@@ -1,17 +1,17 @@
 // Whether arguments are data of a board.
 ghost use Rattle.std.specs.Prelude.{◌≡◌, IsTrue};
 ghost use Rattle.cap_ops.specs.Arrows.{arguments};
-ghost use Rattle.cap_ops.specs.Told.{Known};
-ghost use Rattle.cap_list_board.specs.Lists.{told_in};
+ghost use Rattle.cap_ops.specs.Told.{Known, told_in};
 ghost use Rattle.cap_list_board.specs.Benches.{IsBench, IsArrowOf, IsArgumentOf};
 
 use super::benches::Bench;
+use cap_data::{MorData, ObjData};
 use cap_field::Field;
 use cap_ops::{Arg, Arrow, Offer};
-use cap_small_offer::{Dimension, Entry, SmallOffer};
+use cap_vec_offer::VecOffer;
 
 /// Whether a morphism is a matrix over the field between objects that were told.
-fn is_arrow(objects: &[Dimension], field: Field, f: &Arrow<Entry>) -> bool
+fn is_arrow(objects: &[ObjData], field: Field, f: &Arrow<MorData>) -> bool
     ensures { IsTrue result → IsArrowOf objects.now field f.now }
 {
     let src = f.src.0 as usize;
@@ -19,14 +19,15 @@ fn is_arrow(objects: &[Dimension], field: Field, f: &Arrow<Entry>) -> bool
     if src >= objects.len() || tgt >= objects.len() {
         return false;
     }
-    let m = f.value.matrix().matrix();
-    if m.field().prime() != field.prime() || m.rows() != *objects[src].size() {
-        return false;
+    match (&objects[src], &objects[tgt], &f.value) {
+        (ObjData::Dim(rows), ObjData::Dim(cols), MorData::Mat(m)) => {
+            m.field().prime() == field.prime() && m.rows() == *rows && m.cols() == *cols
+        }
+        _ => false,
     }
-    m.cols() == *objects[tgt].size()
 }
 
-fn is_argument(objects: &[Dimension], field: Field, arg: &Arg<Entry>) -> bool
+fn is_argument(objects: &[ObjData], field: Field, arg: &Arg<MorData>) -> bool
     ensures { IsTrue result → IsArgumentOf objects.now field arg.now }
 {
     match arg {
@@ -37,10 +38,10 @@ fn is_argument(objects: &[Dimension], field: Field, arg: &Arg<Entry>) -> bool
 }
 
 /// Whether all arguments are objects, morphisms and residues of the board's category.
-pub fn are_known(b: &Bench, field: Field, args: &[Arg<Entry>]) -> bool
-    requires is { IsBench ⟦<SmallOffer as Offer>⟧.offered b.now.board b.now.offer b.now.rules }
-    requires field { (⟦<SmallOffer as Offer>⟧.offered b.now.offer).category.prime ≡ field }
-    ensures { IsTrue result → Known (⟦<SmallOffer as Offer>⟧.offered b.now.offer).category (told_in b.now.board.objects) (arguments args.now) }
+pub fn are_known(b: &Bench, field: Field, args: &[Arg<MorData>]) -> bool
+    requires is { IsBench ⟦<VecOffer as Offer>⟧.offered b.now.board b.now.offer b.now.rules }
+    requires field { (⟦<VecOffer as Offer>⟧.offered b.now.offer).category.prime ≡ field }
+    ensures { IsTrue result → Known (⟦<VecOffer as Offer>⟧.offered b.now.offer).category (told_in b.now.board.objects) (arguments args.now) }
 {
     let objects = b.board.objects();
     for arg in args {

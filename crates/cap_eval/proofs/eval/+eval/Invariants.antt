@@ -15,4 +15,4 @@ abbrev pub decreases-run_step : goal.decreases-run_step
 decreases-run_step g l = 3 * depth ((g.B.Board.state l.board.now).plan) l.head.0
 
 abbrev pub invariant-run_rule-loop-step : goal.invariant-run_rule-loop-step
-invariant-run_rule-loop-step g l = g.B.Board.holds l.board × LoopSays (g.C.Offer.offered l.offer) l.rule (arguments l.args) (g.B.Board.state l.initial.board) (g.B.Objects.told l.initial.board) l.step-index (slots l.env.items) (g.B.Board.state l.board) (g.B.Objects.told l.board)
+invariant-run_rule-loop-step g l = g.B.Board.holds l.board × g.B.Board.onward l.initial.board l.board × LoopSays (g.C.Offer.offered l.offer) l.rule (arguments l.args) (g.B.Board.state l.initial.board) (g.B.Objects.told l.initial.board) l.step-index (slots l.env.items) (g.B.Board.state l.board) (g.B.Objects.told l.board)

@@ -1,10 +1,12 @@
 use Rattle.std.proofs.Common.{◌≡◌, length, sym, subst}
+use Rattle.cap_ops.specs.Told.{told_in}
+use Rattle.cap_settle.proofs.Fitting.{out-fits}
 use Rattle.cap_board.specs.Board.{Puts}
-use Rattle.cap_list_board.specs.Lists.{state_of, told_in}
+use Rattle.cap_list_board.specs.Lists.{state_of}
 use Rattle.cap_list_board.specs.Answers.{ListPuts}
 use Rattle.cap_list_board.specs.Holds.{Holds}
-use Rattle.cap_list_board.proofs.Growing.{out-fits}
-use Rattle.cap_list_board.proofs.Answering.{ok-then, either-way, list-puts, list-puts-hold, puts-offer}
+use Rattle.cap_list_board.specs.Onward.{GoesOn}
+use Rattle.cap_list_board.proofs.Answering.{ok-then, either-way, list-puts, list-puts-hold, puts-offer, puts-onward, same-onward}
 use Rattle.cap_list_board.proofs.board.ListBoardBoard.put.Goals as goal
 
 pub answer_put-requires-clause-fits : goal.answer_put-requires-clause-fits
@@ -25,3 +27,9 @@ returns-clause-holds g c =
     either-way (λ a. ListPuts s c.args.key.now c.args.out a s') (s' ≡ s) (Holds (D s'.offer) s') c.answer_put.result c.answer_put.ensures.ok c.answer_put.ensures.err (
     λ a L. subst (λ x. Holds (D x) s') (sym (puts-offer s c.args.key.now c.args.out a s' L)) (list-puts-hold (D s.offer) s c.args.key.now c.requires.holds c.args.out c.requires.may a s' L)
     ) (λ e. subst (λ t. Holds (D t.offer) t) (sym e) c.requires.holds)
+
+pub returns-clause-onward : goal.returns-clause-onward
+returns-clause-onward g c =
+    let s = c.args.self.now in
+    let s' = c.answer_put.new.self in
+    either-way (λ a. ListPuts s c.args.key.now c.args.out a s') (s' ≡ s) (GoesOn s s') c.answer_put.result c.answer_put.ensures.ok c.answer_put.ensures.err (λ a L. puts-onward s c.args.key.now c.args.out a s' L) (λ e. same-onward s c.args.key.now s' e)
