@@ -1,0 +1,14 @@
+pub mod Congruence
+pub mod Unique
+pub mod Valid
+pub mod Numbering
+pub mod Ideal
+pub mod Coordinates
+pub mod HomTotals
+pub mod ClassTable
+pub mod Nulls
+pub mod Levels
+pub mod SpanSteps
+pub mod KnownRows
+pub mod OneQuotient
+pub mod OneTable
