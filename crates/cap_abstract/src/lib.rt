@@ -10,19 +10,21 @@ mod sums;
 #[cfg(test)]
 mod tests;
 
-pub use biproduct::{direct_sum_from_product, lift_by_pair, pair_by_lift, product_from_direct_sum};
-pub use homology::{exact_by_kernels, exact_by_weak_kernels, homology_from_kernel};
-pub use image::{coimage_from_image, image_from_kernel, union_from_image};
+pub use biproduct::{
+    law_direct_sum_from_product, law_lift_by_pair, law_pair_by_lift, law_product_from_direct_sum,
+};
+pub use homology::{law_exact_by_kernels, law_exact_by_weak_kernels, law_homology_from_kernel};
+pub use image::{law_coimage_from_image, law_image_from_kernel, law_union_from_image};
 pub use kernels::{
-    equalizer_from_kernel, equalizer_from_pullback, intersection_from_pullback,
-    kernel_from_equalizer, kernel_from_pullback, kernel_map, pullback_from_equalizer,
-    pullback_from_kernel, weak_kernel_from_kernel,
+    law_equalizer_from_kernel, law_equalizer_from_pullback, law_intersection_from_pullback,
+    law_kernel_from_equalizer, law_kernel_from_pullback, law_kernel_map,
+    law_pullback_from_equalizer, law_pullback_from_kernel, law_weak_kernel_from_kernel,
 };
 pub use monos::{
-    inverse_by_section, iso_by_mono_and_epi, iso_by_splits, mono_by_kernel, mono_by_pullback,
-    mono_by_weak_kernel,
+    law_inverse_by_section, law_iso_by_mono_and_epi, law_iso_by_splits, law_mono_by_kernel,
+    law_mono_by_pullback, law_mono_by_weak_kernel,
 };
 pub use sums::{
-    add_by_subtract, congruent_by_subtract, identity_from_direct_sum, negate_by_subtract,
-    zero_from_direct_sum,
+    law_add_by_subtract, law_congruent_by_subtract, law_identity_from_direct_sum,
+    law_negate_by_subtract, law_zero_from_direct_sum,
 };

@@ -108,8 +108,8 @@ same-handle h k e = ap handle e
 pub names-each-once : {M : Type 0} (v : Answer M) → NamesEachOnce v
 names-each-once v = record {
   same = λ h. (
-      (λ c. contained-among (mentions v) h (once-in number_of same-handle [] (mentions v) c.0 h (slice_get-get_or (mentioned v) c.0 h c.1 ∙ ap Some c.2)).0),
-      (λ c. let f = once-finds number_of same-handle [] (mentions v) h (among-contained (mentions v) h c) refl in (f.0, slice_get_within (mentioned v) f.0 h f.1, get_or_from_slice_get (mentioned v) f.0 h h f.1)),
-    );
+    (λ c. contained-among (mentions v) h (once-in number_of same-handle [] (mentions v) c.0 h (slice_get-get_or (mentioned v) c.0 h c.1 ∙ ap Some c.2)).0),
+    (λ c. let f = once-finds number_of same-handle [] (mentions v) h (among-contained (mentions v) h c) refl in (f.0, slice_get_within (mentioned v) f.0 h f.1, get_or_from_slice_get (mentioned v) f.0 h h f.1)),
+  );
   once = λ i j h e f. once-apart number_of same-handle [] (mentions v) i j h e f;
 }

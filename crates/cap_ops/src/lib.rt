@@ -6,8 +6,8 @@ mod derivations;
 mod ends;
 mod fitting;
 mod keys;
-mod numbers;
 mod laws;
+mod numbers;
 mod offers;
 pub mod operations;
 mod plans;
@@ -17,13 +17,14 @@ mod sorts;
 
 pub use arrows::{Arrow, End, OutArrow};
 pub use derivations::{
-    bounds_of_plan, lines_of_plan, lines_suffice, lower_bounds, one_least, one_plan,
+    law_bounds_of_plan, law_lines_of_plan, law_lines_suffice, law_lower_bounds, law_one_least,
+    law_one_plan,
 };
 pub use ends::{Ends, OperationEnds, Shape, arity, operation_ends};
 pub use fitting::{Mismatch, ends_fit};
 pub use keys::{Arg, Key, Out, PrimOut, Value};
-pub use numbers::{law_numbers, law_operations_are_numbered};
 pub use laws::{law_names_each_once, law_new_objects};
+pub use numbers::{law_numbers, law_operations_are_numbered};
 pub use offers::{kind_word, offered};
 pub use plans::{Choice, Kind, MOST_WEIGHT, NO_PLAN, OPERATIONS, Plan, Regs, RuleCost, choice_of};
 pub use primitives::{Datum, Objects, Offer};

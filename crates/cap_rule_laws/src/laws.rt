@@ -17,6 +17,6 @@ pub fn sound_abelian<C: Abelian>()
 {}
 
 /// On arguments that fit an operation, an answer that has the operation's meaning has its sort and ends.
-pub fn meanings_fit<C: Cat>()
+pub fn law_meanings_fit<C: Cat>()
     ensures { (c : C) → MeaningFits (C.category c) }
 {}

@@ -3,7 +3,7 @@
 
 pub mod laws;
 
-pub use laws::{meanings_fit, sound_abelian, sound_linear};
+pub use laws::{law_meanings_fit, sound_abelian, sound_linear};
 
 #[cfg(test)]
 mod tests;

@@ -1,5 +1,5 @@
 // The soundness of the rules at concrete categories: the residues modulo a prime, and the category with one morphism between any two objects.
-use crate::laws::{meanings_fit, sound_abelian, sound_linear};
+use crate::laws::{law_meanings_fit, sound_abelian, sound_linear};
 use cap_laws::examples::{NullCategory, Scalars};
 
 #[test]
@@ -7,5 +7,5 @@ fn soundness_is_taken_by_calls(_rt: HostRuntime) {
     sound_linear::<Scalars>();
     sound_linear::<NullCategory>();
     sound_abelian::<NullCategory>();
-    meanings_fit::<Scalars>();
+    law_meanings_fit::<Scalars>();
 }

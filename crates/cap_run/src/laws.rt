@@ -6,7 +6,7 @@ use cap_ops::Offer;
 
 /// By the plan of offered primitives over typed rules evaluation ends: each operation that a chosen body calls has a
 /// smaller bound, and is never missing.
-pub fn plans_are_true<C: Offer>()
+pub fn law_plans_are_true<C: Offer>()
     ensures { (c : C) → PlansAreTrue (C.offered c) }
 {}
 

@@ -3,4 +3,4 @@
 
 mod laws;
 
-pub use laws::{law_run_is_one, plans_are_true};
+pub use laws::{law_plans_are_true, law_run_is_one};

@@ -4,6 +4,6 @@ ghost use Rattle.cap_run_laws.specs.Meant.{RunMeans};
 use cap_ops::Offer;
 
 /// By a true plan of sound rules, the value of plain evaluation has the operation's meaning.
-pub fn run_means<C: Offer>()
+pub fn law_run_means<C: Offer>()
     ensures { (c : C) → RunMeans (C.offered c) }
 {}

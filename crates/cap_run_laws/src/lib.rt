@@ -3,4 +3,4 @@
 
 mod laws;
 
-pub use laws::run_means;
+pub use laws::law_run_means;

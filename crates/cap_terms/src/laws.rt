@@ -6,6 +6,6 @@ ghost use Rattle.cap_terms.specs.Ends.{NeverMismatches};
 
 /// A typed body that is run on arguments that fit its head never meets a mismatch of ends, whatever answers its calls
 /// give within their signatures; its answer has the head's ends.
-pub fn typed_bodies_fit<O, M>()
+pub fn law_typed_bodies_fit<O, M>()
     ensures { (S : Setting O M) (head : ℕ) (body : Body) → NeverMismatches S head body }
 {}

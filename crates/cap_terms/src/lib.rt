@@ -13,7 +13,7 @@ mod symbol;
 
 pub use body::{Body, Rule, Step, Var};
 pub use check::{BadStep, check_term};
-pub use laws::typed_bodies_fit;
+pub use laws::law_typed_bodies_fit;
 pub use occurrences::multiplicity;
 pub use rule_set::RuleSet;
 

@@ -223,21 +223,21 @@ fn a_system_with_one_equation(rt: HostRuntime) {
 
 #[test]
 fn laws_are_taken_by_calls(rt: HostRuntime) {
-    laws::congruence_calculus::<Scalars>();
-    laws::difference_is_zero::<Scalars>();
-    laws::zero_composes::<Scalars>();
-    laws::negation::<Scalars>();
-    laws::differences_compose::<Scalars>();
-    laws::mono_cancels::<Scalars>();
-    laws::kernel_is_mono::<Scalars>();
-    laws::kernels_are_isomorphic::<Scalars>();
-    laws::factoring_is_an_ideal::<Scalars>();
-    laws::weak_kernel_is_a_preimage::<Scalars>();
-    laws::splits_give_kernels::<Scalars>();
-    laws::factoring_by_a_system::<Scalars>();
-    laws::opposite_is_linear::<Scalars>();
-    laws::opposite_is_abelian::<NullCategory>();
-    laws::basis_products::<Scalars>();
+    laws::law_congruence_calculus::<Scalars>();
+    laws::law_difference_is_zero::<Scalars>();
+    laws::law_zero_composes::<Scalars>();
+    laws::law_negation::<Scalars>();
+    laws::law_differences_compose::<Scalars>();
+    laws::law_mono_cancels::<Scalars>();
+    laws::law_kernel_is_mono::<Scalars>();
+    laws::law_kernels_are_isomorphic::<Scalars>();
+    laws::law_factoring_is_an_ideal::<Scalars>();
+    laws::law_weak_kernel_is_a_preimage::<Scalars>();
+    laws::law_splits_give_kernels::<Scalars>();
+    laws::law_factoring_by_a_system::<Scalars>();
+    laws::law_opposite_is_linear::<Scalars>();
+    laws::law_opposite_is_abelian::<NullCategory>();
+    laws::law_basis_products::<Scalars>();
 }
 
 #[test]

@@ -1,5 +1,0 @@
-use Rattle.cap_abstract.proofs.Exactness.{exact-from-weak-kernels, middle-of-exact}
-use Rattle.cap_abstract.proofs.homology.exact_by_weak_kernels.Goals as goal
-
-pub returns : goal.returns
-returns g c = λ k. let L = g.met.C.Cat.linear k in record { law = λ F G K P z. (exact-from-weak-kernels L F G K P z, middle-of-exact L K P) }

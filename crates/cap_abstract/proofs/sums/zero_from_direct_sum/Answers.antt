@@ -1,4 +1,0 @@
-use Rattle.cap_abstract.proofs.sums.zero_from_direct_sum.Goals as goal
-
-pub returns : goal.returns
-returns g c = λ k. record { law = λ D. D.zero12 }

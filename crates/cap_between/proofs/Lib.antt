@@ -1,2 +1,0 @@
-pub mod Abelian
-pub mod Ends

@@ -1,2 +1,0 @@
-pub mod WithEnds
-pub mod Laws

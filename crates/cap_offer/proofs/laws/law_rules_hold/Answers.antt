@@ -1,5 +1,0 @@
-use Rattle.cap_offer.proofs.Rules.{rules_hold}
-use Rattle.cap_offer.proofs.laws.law_rules_hold.Goals as goal
-
-pub returns : goal.returns
-returns c = rules_hold

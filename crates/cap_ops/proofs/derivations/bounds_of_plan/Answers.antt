@@ -1,5 +1,0 @@
-use Rattle.cap_ops.proofs.DerivationsPlans.{plan_below}
-use Rattle.cap_ops.proofs.derivations.bounds_of_plan.Goals as goal
-
-pub returns : goal.returns
-returns c = plan_below

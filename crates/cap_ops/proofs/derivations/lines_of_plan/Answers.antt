@@ -1,5 +1,0 @@
-use Rattle.cap_ops.proofs.DerivationsPlans.{plan_lines}
-use Rattle.cap_ops.proofs.derivations.lines_of_plan.Goals as goal
-
-pub returns : goal.returns
-returns c = plan_lines

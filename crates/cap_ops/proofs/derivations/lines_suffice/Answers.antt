@@ -1,5 +1,0 @@
-use Rattle.cap_ops.proofs.DerivationsLines.{plan_where_lines_hold}
-use Rattle.cap_ops.proofs.derivations.lines_suffice.Goals as goal
-
-pub returns : goal.returns
-returns c = plan_where_lines_hold

@@ -1,5 +1,0 @@
-use Rattle.cap_ops.proofs.DerivationsBounds.{same_least}
-use Rattle.cap_ops.proofs.derivations.one_least.Goals as goal
-
-pub returns : goal.returns
-returns c = same_least

@@ -1,5 +1,0 @@
-use Rattle.cap_rule_laws.proofs.SoundFits.{meaning-fits}
-use Rattle.cap_rule_laws.proofs.laws.meanings_fit.Goals as goal
-
-pub returns : goal.returns
-returns g c = λ k. meaning-fits (g.C.Cat.category k)

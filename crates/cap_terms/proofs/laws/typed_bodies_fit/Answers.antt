@@ -1,5 +1,0 @@
-use Rattle.cap_terms.proofs.Fit.{never_mismatches}
-use Rattle.cap_terms.proofs.laws.typed_bodies_fit.Goals as goal
-
-pub returns : goal.returns
-returns g c = λ S head body. never_mismatches S head body
