@@ -4,6 +4,7 @@ mod Kernels
 mod RowBuffers
 mod LiftSizes
 mod PullbackLaws
+mod BlockWrites
 mod SystemBlocks
 mod SystemMatrix
 mod SystemParts

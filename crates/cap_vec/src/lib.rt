@@ -2,6 +2,7 @@
 #![tactic(auto)]
 
 mod abelian;
+mod blocks;
 mod category;
 mod laws;
 mod lifts;
