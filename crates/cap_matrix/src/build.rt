@@ -6,13 +6,14 @@ ghost use Rattle.cap_matrix.specs.Made.{IsMade, IsFault};
 use crate::kernels::Shape;
 use crate::{Matrix, MatrixFault, NoMemory, TooLarge, kernels};
 use cap_field::Field;
+use cap_matrix_limits::keeps;
 use std::alloc::Global;
 
-/// Whether a matrix of this size keeps the limits.
-fn fits(rows: u32, cols: u32) -> bool
+/// Whether a matrix of numbers of this size keeps the limits.
+pub fn fits(rows: u32, cols: u32) -> bool
     ensures { result ≡ fits_limits rows cols }
 {
-    rows <= 2048 && cols <= 2048 && rows as u64 * cols as u64 <= 1_048_576
+    keeps(rows, cols, rows as u64 * cols as u64)
 }
 
 /// A flat buffer of zeros for a matrix within the limits.

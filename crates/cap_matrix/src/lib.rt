@@ -7,6 +7,7 @@ mod build;
 mod kernels;
 mod matrix;
 
+pub use build::fits;
 pub use cap_names::{NoMemory, TooLarge};
 pub use matrix::Matrix;
 use std::alloc::AllocError;

@@ -3,7 +3,7 @@ mod Faults
 mod Kernels
 mod RowBuffers
 mod LiftSizes
-mod PullbackLaws
+pub mod PullbackLaws
 mod BlockWrites
 mod SystemBlocks
 mod SystemMatrix

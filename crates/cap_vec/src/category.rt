@@ -8,7 +8,8 @@ use cap_laws::{Cat, CatFault, Preadditive};
 use cap_matrix::Matrix;
 use std::alloc::Global;
 
-/// The category of matrices over a prime field: objects are dimensions of at most 2,048, and a morphism from m to n is a matrix of m rows and n columns.
+/// The category of matrices over a prime field: the objects are dimensions, every `u32`, and a morphism from m to n is a matrix of m rows and n columns.
+/// A dimension past 2,048 is an object too: a call that meets a matrix of such a size answers `TooLarge`.
 #[derive(Debug, Drop)]
 pub struct VecCat {
     pub(crate) field: Field,

@@ -1,5 +1,5 @@
 // Laws of the answers, each a call that does nothing.
-ghost use Rattle.cap_vec.specs.Laws.{KernelIsNullBasis, LiftIsRowByRow};
+ghost use Rattle.cap_vec.specs.Laws.{KernelIsNullBasis, LiftIsRowByRow, PullbackIsUniversal, PushoutIsUniversal};
 
 /// The kernel of a matrix is its null-row basis; cokernels, pullbacks and pushouts are made of kernels.
 pub fn law_kernel_is_null_basis()
@@ -9,4 +9,14 @@ pub fn law_kernel_is_null_basis()
 /// The lift solves row by row; the colift is the transpose of a lift of transposes.
 pub fn law_lift_is_row_by_row()
     ensures { LiftIsRowByRow }
+{}
+
+/// The pullback that is answered has its universal property, whatever the sizes.
+pub fn law_pullback_is_universal()
+    ensures { PullbackIsUniversal }
+{}
+
+/// The pushout that is answered has its universal property, whatever the sizes.
+pub fn law_pushout_is_universal()
+    ensures { PushoutIsUniversal }
 {}

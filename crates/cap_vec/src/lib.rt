@@ -12,7 +12,10 @@ mod sums;
 mod systems;
 
 pub use category::VecCat;
-pub use laws::{law_kernel_is_null_basis, law_lift_is_row_by_row};
+pub use laws::{
+    law_kernel_is_null_basis, law_lift_is_row_by_row, law_pullback_is_universal,
+    law_pushout_is_universal,
+};
 pub use morphism::VecMor;
 
 #[cfg(test)]

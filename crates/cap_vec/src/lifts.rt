@@ -11,7 +11,7 @@ ghost use Rattle.cap_vec.specs.Solved.{AreRowsSolved};
 use crate::morphism::{VecMor, transposed};
 use cap_field::Field;
 use cap_laws::CatFault;
-use cap_matrix::Matrix;
+use cap_matrix::{Matrix, fits};
 use cap_names::Items;
 use cap_reduce::{SolvedRows, solve_rows};
 use std::alloc::Global;
@@ -40,7 +40,7 @@ pub(crate) fn from_rows(
     requires residues { (k : ℕ) → k < rows * cols → slice_index cells k < field }
     ensures { Answers (IsSizeOf (matrix_of field rows cols cells)) (λ x. x ≡ matrix_of field rows cols cells) result }
 {
-    if rows > 2048 || cols > 2048 || rows * cols > 1_048_576 {
+    if !fits(rows, cols) {
         return Err(CatFault::TooLarge { rows, cols });
     }
     Ok(VecMor::new(Matrix::from_cells(field, rows, cols, cells.into_vec())))

@@ -51,6 +51,18 @@ impl VecMor {
         &self.matrix
     }
 
+    /// The matrix of a morphism, without a copy.
+    pub fn into_matrix(self) -> Matrix
+        ensures { result ≡ self }
+    {
+        let VecMor {
+            source: _,
+            target: _,
+            matrix,
+        } = self;
+        matrix
+    }
+
     /// The row count.
     pub(crate) fn source(&self) -> &u32
         ensures { result.now ≡ self.now.row_count }

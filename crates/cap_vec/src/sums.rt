@@ -9,6 +9,7 @@ use crate::morphism::{VecMor, answered};
 use cap_field::Field;
 use cap_laws::{Additive, CatFault, Sum};
 use cap_matrix::{Matrix, MatrixFault};
+use cap_matrix_limits::MOST_SIDE;
 use std::alloc::Global;
 
 /// Writes ones into zeros, on the diagonal through row `row` and column `col`, one of which is 0.
@@ -77,7 +78,7 @@ pub(crate) fn direct_sum(
 ) -> Result<Sum<VecMor>, CatFault>
     ensures { Answers (IsSizeInSum field a b) (λ x. x ≡ block_sum field a b) result }
 {
-    if a > 2048 || b > 2048 {
+    if a > MOST_SIDE || b > MOST_SIDE {
         return Err(CatFault::TooLarge {
             rows: a,
             cols: a.saturating_add(b),

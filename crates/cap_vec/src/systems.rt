@@ -20,7 +20,7 @@ use crate::lifts::{from_rows, lift};
 use crate::morphism::VecMor;
 use cap_field::Field;
 use cap_laws::{CatFault, Equation, Lifts, System, Term};
-use cap_matrix::Matrix;
+use cap_matrix::{Matrix, fits};
 use cap_names::Items;
 use std::alloc::Global;
 
@@ -107,6 +107,7 @@ fn write_equations(
 )
     requires equations { AreEquations field unknowns.now equations.now }
     requires few { cells_of unknowns.now ≤ 2048 }
+    requires narrow { width_of equations.now ≤ 2048 }
     requires size { length cells.old ≡ cells_of unknowns.now * width_of equations.now }
     requires width { length values.old ≡ width_of equations.now }
     requires zeros { (k : ℕ) → slice_index cells.old k ≡ 0 }
@@ -176,7 +177,7 @@ fn row_equation(
     let equations = s.equations.as_slice();
     let rows = cell_count(unknowns);
     let cols = value_count(equations);
-    if rows > 2048 || cols > 2048 || rows * cols > 1_048_576 {
+    if !fits(rows, cols) {
         return Err(CatFault::TooLarge { rows, cols });
     }
     let mut cells = vec![in alloc; 0u16; rows as usize * cols as usize]?;

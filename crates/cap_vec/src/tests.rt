@@ -244,6 +244,23 @@ fn sizes_past_the_limits_are_named(rt: HostRuntime) -> Result<(), Fail> {
     Ok(())
 }
 
+#[test]
+fn a_kernel_and_a_lift_past_the_limits_are_no_want_of_memory(rt: HostRuntime) -> Result<(), Fail> {
+    let alloc = rt.alloc();
+    let field = Field::from_prime(2).expect(&rt, "a prime of the table");
+    let category = VecCat::new(field);
+    let large = CatFault::TooLarge {
+        rows: 2048,
+        cols: 2048,
+    };
+    let column = morphism(&rt, alloc, field, 2048, 1, &[]);
+    assert_eq!(rt; category.kernel(alloc, &column).err(), Some(large));
+    assert_eq!(rt; category.lift(alloc, &column, &column).err(), Some(large));
+    let one_row = morphism(&rt, alloc, field, 2048, 1, &[1]);
+    assert!(rt; is_answer(&category.lift(alloc, &one_row, &column)?, None));
+    Ok(())
+}
+
 /// The system l·X·r = v in one unknown.
 fn one_equation(
     alloc: Global,
@@ -286,6 +303,24 @@ fn first_solved<C: Lifts>(
     }
 }
 
+/// The solution of l·X·r = v in one unknown.
+fn solved(
+    category: &VecCat,
+    alloc: Global,
+    left: VecMor,
+    right: VecMor,
+    value: VecMor,
+) -> Result<Option<VecMor>, CatFault>
+    requires left { IsMatrix category.now.field left }
+    requires right { IsMatrix category.now.field right }
+    requires value { IsMatrix category.now.field value }
+    requires rows { value.row_count ≡ left.row_count }
+    requires columns { value.column_count ≡ right.column_count }
+{
+    let s = one_equation(alloc, left, right, value)?;
+    first_solved(category, alloc, &s)
+}
+
 #[test]
 fn systems_are_solved_or_refuted(rt: HostRuntime) -> Result<(), Fail> {
     let alloc = rt.alloc();
@@ -299,8 +334,26 @@ fn systems_are_solved_or_refuted(rt: HostRuntime) -> Result<(), Fail> {
         let left = morphism(&rt, alloc, field, 2, 3, &[1, 0, 0, 0, 1, 0]);
         let right = morphism(&rt, alloc, field, 2, 2, &[1, 2, 2, 4]);
         let value = morphism(&rt, alloc, field, 2, 2, value);
-        let s = one_equation(alloc, left, right, value)?;
-        assert!(rt; is_answer(&first_solved(&category, alloc, &s)?, *answer));
+        assert!(rt; is_answer(&solved(&category, alloc, left, right, value)?, *answer));
     }
+    Ok(())
+}
+
+#[test]
+fn a_system_past_the_limits_is_no_want_of_memory(rt: HostRuntime) -> Result<(), Fail> {
+    let alloc = rt.alloc();
+    let field = Field::from_prime(3).expect(&rt, "a prime of the table");
+    let category = VecCat::new(field);
+    let left = morphism(&rt, alloc, field, 1, 1025, &[]);
+    let right = morphism(&rt, alloc, field, 2, 1, &[]);
+    let value = morphism(&rt, alloc, field, 1, 1, &[]);
+    let large = CatFault::TooLarge {
+        rows: 2050,
+        cols: 1,
+    };
+    assert_eq!(rt;
+        solved(&category, alloc, left, right, value).err(),
+        Some(large)
+    );
     Ok(())
 }

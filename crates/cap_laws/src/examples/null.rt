@@ -8,6 +8,7 @@ use crate::{
     Abelian, Additive, Cat, CatFault, Lifts, Preadditive, Sum, System, WeakCokernels, WeakKernels,
 };
 use cap_field::Field;
+use cap_matrix_limits::keeps;
 use cap_names::Items;
 use std::alloc::Global;
 
@@ -36,7 +37,7 @@ impl NullCategory {
 fn checked(rows: u32, cols: u32) -> Result<Null, CatFault>
     ensures { Answers (λ s. s ≡ null_size rows cols) (λ x. x ≡ null rows cols) result }
 {
-    if rows > 2048 || cols > 2048 {
+    if !keeps(rows, cols, 0) {
         return Err(CatFault::TooLarge { rows, cols });
     }
     Ok(Null {

@@ -8,14 +8,14 @@ use Rattle.cap_vec.proofs.Diagonals.{first_in-diagonal, second_in-diagonal, firs
 use Rattle.cap_vec.proofs.Faults.{either_fits}
 use Rattle.cap_vec.proofs.sums.direct_sum.Goals as goal
 
-pub returns-then-a-gt2048 : goal.returns-then-a-gt2048
-returns-then-a-gt2048 c =
+pub returns-then-a-gt-MOST_SIDE : goal.returns-then-a-gt-MOST_SIDE
+returns-then-a-gt-MOST_SIDE c =
     let a = c.args.a in
     let b = c.args.b in
     record {
       size = size_of (first_in c.args.field a b);
       is_met = inl (inl refl);
-      past = λ (h : Fits (size_of (first_in c.args.field a b))). let wide = h.columns in ⊎_elim (λ x. omega (arith, wide, x)) (λ x. omega (arith, wide, x.1)) c.then-a-gt2048.either;
+      past = λ (h : Fits (size_of (first_in c.args.field a b))). let wide = h.columns in ⊎_elim (λ x. omega (arith, wide, x)) (λ x. omega (arith, wide, x.1)) c.then-a-gt-MOST_SIDE.either;
       rows_named = search rules;
       columns_named = c.saturating_add.ensures;
     }
