@@ -1,7 +1,7 @@
 -- The matrix of a system and the row of its values, written term by term and equation by equation.
-use Rattle.std.proofs.Common.{◌≡◌, ℕ, suc, ◌+◌, ◌-◌, ◌*◌, ◌^◌, ◌/◌, ◌%◌, ◌<◌, ◌≤◌, min, true, ◌⊎◌, List, [], ◌∷◌, length, take, get_or, refl, sym, ap, ◌∙◌, subst, arith, rules, ⊎_elim, zero-add}
+use Rattle.std.proofs.Common.{◌≡◌, ℕ, suc, ◌+◌, ◌-◌, ◌*◌, ◌^◌, ◌/◌, ◌%◌, ◌<◌, ◌≤◌, min, true, false, ◌⊎◌, List, [], ◌∷◌, length, take, get_or, refl, sym, ap, ◌∙◌, subst, arith, rules, ⊎_elim, zero-add}
 use Rattle.std.proofs.lemmas.Nat.{div_below, mod_below}
-use Rattle.std.proofs.lemmas.Bool.{cases_eq, cases_lt}
+use Rattle.std.proofs.lemmas.Bool.{cases_eq, cases_lt, false≢true}
 use Rattle.std.proofs.Math.Nat.{add-zero, mod-eq_of_lt, div-add-mod'}
 use borrow.Rule.Slice.PartMut.{put_mid}
 use Rattle.cap_matrix.specs.Grid.{Grid, IsMatrix, IsMatrixOf, entry, fits_limits}
@@ -45,11 +45,13 @@ uncut n c le e = search rules
 pub uncut_small : (n c : ℕ) → c ≤ 2048 → c ≡ min n (2 ^ 32 - 1) → c ≡ n
 uncut_small n c le e = search rules
 
-pub too_many : (n c : ℕ) → 2048 < c → c ≡ min n (2 ^ 32 - 1) → n ≤ 2048 → ⊥
-too_many n c gt e le = search rules
-
 pub fits_from : (n m : ℕ) → n ≤ 2048 → m ≤ 2048 → n * m ≤ 1048576 → fits_limits n m ≡ true
 fits_from n m a b h = search rules
+
+-- counts that are past the limits where they are cut are past them uncut
+pub past_limits : (n m r c : ℕ) → r ≡ min n (2 ^ 32 - 1) → c ≡ min m (2 ^ 32 - 1) → fits_limits r c ≡ false → n ≤ 2048 → m ≤ 2048 → n * m ≤ 1048576 → ⊥
+past_limits n m r c er ec past high wide area =
+    false≢true (sym past ∙ ap (λ x. fits_limits x c) (uncut n r high er) ∙ ap (λ y. fits_limits n y) (uncut m c wide ec) ∙ fits_from n m high wide area)
 
 -- places of a list, one after the other
 pub nth-here : {A : Type 0} (xs : List A) (i : ℕ) (x : A) → i < length xs → x ≡ get_or xs i x → Nth xs i x
