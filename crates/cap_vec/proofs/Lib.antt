@@ -4,6 +4,7 @@ mod Kernels
 mod RowBuffers
 mod LiftSizes
 pub mod PullbackLaws
+mod BlockWrites
 mod SystemBlocks
 mod SystemMatrix
 mod SystemParts

@@ -2,4 +2,5 @@ pub mod Members
 pub mod Sizes
 pub mod SystemSizes
 pub mod Solved
+pub mod Blocks
 pub mod Laws

@@ -2,16 +2,9 @@
 use Rattle.std.specs.Prelude.{◌≡◌, ℕ, ◌*◌, List, length, Option, Some, None, Result, Ok, Err}
 use Rattle.cap_matrix.specs.Grid.{Grid}
 use Rattle.cap_matrix.specs.Buffer.{matrix_of}
-use Rattle.cap_matrix.specs.Reduced.{IsInSpan, IsSolution}
 use Rattle.cap_laws.specs.declared.faults.CatFault.{CatFault}
 use Rattle.cap_laws.specs.declared.faults.CatFault.TheVariants.{NoMemory}
 use Rattle.cap_vec_laws.specs.Laws.{IsRowSolution, IsRowLift}
-
--- the canonical solution of y·f = v, or none exactly where v is outside the span, or want of memory
-abbrev pub IsRowSolved : Grid → List ℕ → Result (Option (List ℕ)) CatFault → Type 0
-IsRowSolved f v (Ok (Some y)) = IsSolution f v y
-IsRowSolved f v (Ok None) = IsInSpan f v → ⊥
-IsRowSolved f v (Err e) = e ≡ NoMemory
 
 -- a flat buffer of the canonical lift of x along f
 pub record IsLiftBuffer (x f : Grid) (cells : List ℕ) : Type 0 where

@@ -2,6 +2,7 @@
 #![tactic(auto)]
 
 mod abelian;
+mod blocks;
 mod category;
 mod laws;
 mod lifts;
@@ -13,7 +14,7 @@ mod systems;
 pub use category::VecCat;
 pub use laws::{
     law_kernel_is_null_basis, law_lift_is_row_by_row, law_pullback_is_universal,
-    law_pushout_is_universal,
+    law_pushout_is_universal, law_solution_is_canonical,
 };
 pub use morphism::VecMor;
 

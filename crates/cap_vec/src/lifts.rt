@@ -1,66 +1,32 @@
-// Lifts row by row, and colifts by transposes.
-ghost use Rattle.std.specs.Prelude.{◌≡◌, ℕ, ◌+◌, ◌*◌, ◌<◌, ◌≤◌, true, [], length, slice_index, slice_index_or};
+// Lifts by one elimination for all rows, and colifts by transposes.
+ghost use Rattle.std.specs.Prelude.{◌≡◌, ℕ, ◌*◌, ◌<◌, true, length, slice_index};
 ghost use Rattle.cap_field.specs.Residue.{is_tabled};
 ghost use Rattle.cap_matrix.specs.Buffer.{matrix_of};
 ghost use Rattle.cap_matrix.specs.Grid.{IsMatrix};
 ghost use Rattle.cap_laws.specs.Answers.{Answers};
 ghost use Rattle.cap_vec.specs.Members.{lift_of, colift_of};
 ghost use Rattle.cap_vec.specs.Sizes.{IsSizeOf, IsSizeInLift, IsSizeInColift};
-ghost use Rattle.cap_vec.specs.Solved.{IsRowSolved, AreRowsSolved};
+ghost use Rattle.cap_vec.specs.Solved.{AreRowsSolved};
 
 use crate::morphism::{VecMor, transposed};
 use cap_field::Field;
 use cap_laws::CatFault;
 use cap_matrix::{Matrix, fits};
 use cap_names::Items;
-use cap_reduce::{Solved, solve};
+use cap_reduce::{SolvedRows, solve_rows};
 use std::alloc::Global;
 
-/// The canonical solution y of y·f = row; `None` where there is none.
-fn solution(
-    alloc: Global,
-    f: &VecMor,
-    row: &[u16],
-) -> Result<Option<cap_reduce::Items<u16>>, CatFault>
-    requires width { length row.now ≡ f.now.column_count }
-    requires residues { (j : ℕ) → j < length row.now → slice_index row.now j < f.now.prime }
-    ensures { IsRowSolved f.now row.now result }
-{
-    match solve(alloc, f.matrix(), row) {
-        Ok(Solved::Row(y)) => Ok(Some(y)),
-        Ok(Solved::Obstruction(_)) => Ok(None),
-        Err(_) => Err(CatFault::NoMemory),
-    }
-}
-
-/// Row `i` of a matrix.
-fn row(x: &VecMor, i: u32) -> &[u16]
-    requires { i < x.now.row_count }
-    ensures value { result.now ≡ slice_index_or x.now.entries i [] }
-    ensures width { length result.now ≡ x.now.column_count }
-    ensures residues { (j : ℕ) → j < x.now.column_count → slice_index result.now j < x.now.prime }
-{
-    let m = x.matrix();
-    let _ = m.rows();
-    let cols = m.cols() as usize;
-    let start = i as usize * cols;
-    &m.cells()[start..start + cols]
-}
-
 /// The canonical solutions for the rows of x, one after the other; `None` where some row has none.
-fn solve_rows(alloc: Global, x: &VecMor, f: &VecMor) -> Result<Option<Items<u16>>, CatFault>
+fn row_solutions(alloc: Global, x: &VecMor, f: &VecMor) -> Result<Option<Items<u16>>, CatFault>
     requires prime { x.now.prime ≡ f.now.prime }
     requires meet { x.now.column_count ≡ f.now.column_count }
     ensures { AreRowsSolved x.now f.now result }
 {
-    let mut cells = Vec::new(alloc);
-    for i in 0..*x.source() {
-        match solution(alloc, f, row(x, i))? {
-            None => return Ok(None),
-            Some(y) => cells.extend_from_slice(y.as_slice())?,
-        }
+    match solve_rows(alloc, f.matrix(), x.matrix()) {
+        Ok(SolvedRows::All(cells)) => Ok(Some(cells)),
+        Ok(SolvedRows::Unsolved(_)) => Ok(None),
+        Err(_) => Err(CatFault::NoMemory),
     }
-    Ok(Some(Items::new(cells)))
 }
 
 /// The matrix of these cells, where its size keeps the limits.
@@ -93,7 +59,7 @@ pub(crate) fn lift(
     ensures { (t : is_tabled field ≡ true) → Answers (IsSizeInLift field t x.now f.now) (λ o. o ≡ lift_of field t x.now f.now) result }
 {
     let _ = f.matrix().cells();
-    match solve_rows(alloc, x, f) {
+    match row_solutions(alloc, x, f) {
         Ok(None) => Ok(None),
         Ok(Some(cells)) => match from_rows(field, *x.source(), *f.source(), cells) {
             Ok(u) => Ok(Some(u)),

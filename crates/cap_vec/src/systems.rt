@@ -1,27 +1,26 @@
 // Systems of linear equations as one row equation: the cells of the unknowns, unknown by unknown and row by row.
-ghost use Rattle.std.specs.Prelude.{◌≡◌, ℕ, ◌⊎◌, ◌+◌, ◌-◌, ◌*◌, ◌^◌, ◌≤◌, min, take, drop, length, true, Ok, IfOk, IfErr};
+ghost use Rattle.std.specs.Prelude.{◌≡◌, ℕ, ◌⊎◌, ◌+◌, ◌-◌, ◌*◌, ◌^◌, ◌<◌, ◌≤◌, min, take, drop, length, slice_index, true, IfOk, IfErr};
 ghost use Rattle.cap_field.specs.Residue.{is_tabled};
-ghost use Rattle.cap_matrix.specs.Grid.{Grid, IsMatrix, IsMatrixOf, entry, fits_limits, zero_of, stacked_of, kron_of, transposed_of};
-ghost use Rattle.cap_matrix.specs.Made.{IsMade};
-ghost use Rattle.cap_matrix.specs.declared.MatrixFault.TheVariants.{NoMemory};
-ghost use Rattle.cap_matrix.specs.Flat.{flat_row};
+ghost use Rattle.cap_matrix.specs.Grid.{IsMatrixOf, entry};
+ghost use Rattle.cap_reduce.specs.Flat.{cell};
 ghost use Rattle.cap_laws.specs.Answers.{Answers, Size, Fits};
-ghost use Rattle.cap_laws.specs.Systems.{Nth, IsTerm, IsSystem};
-ghost use Rattle.cap_laws.specs.declared.values.Equation.{Equation};
+ghost use Rattle.cap_laws.specs.Systems.{IsTerm, IsSystem};
 ghost use Rattle.cap_laws.specs.declared.faults.CatFault.TheVariants.{NoMemory as no_memory};
 ghost use Rattle.cap_vec_laws.specs.Vec.{vec_data};
-ghost use Rattle.cap_vec_laws.specs.Systems.{cells_of, in_rows, coefficients_of, system_matrix, values_row};
+ghost use Rattle.cap_vec_laws.specs.Systems.{cells_of, term_rows, coefficients_of, system_matrix, values_row};
 ghost use Rattle.cap_vec_laws.specs.Systems.{AreTerms, AreEquations, width_of, matrices_of};
 ghost use Rattle.cap_vec.specs.Members.{solution_of};
+ghost use Rattle.cap_vec.specs.Blocks.{IsBlockAdded};
 ghost use Rattle.cap_vec.specs.Sizes.{IsSizeOf, size_of};
 ghost use Rattle.cap_vec.specs.SystemSizes.{IsSizeOfFactor, IsSizeInEquations, IsSizeOfOne, IsSizeInSystem};
 
 use crate::VecCat;
+use crate::blocks::add_kron;
 use crate::lifts::{from_rows, lift};
 use crate::morphism::VecMor;
 use cap_field::Field;
 use cap_laws::{CatFault, Equation, Lifts, System, Term};
-use cap_matrix::{Matrix, MatrixFault};
+use cap_matrix::{Matrix, fits};
 use cap_names::Items;
 use std::alloc::Global;
 
@@ -48,115 +47,85 @@ fn value_count(equations: &[Equation<VecMor>]) -> u32
     count
 }
 
-/// A matrix with `above` rows of zeros above it and `below` under it.
-fn placed(alloc: Global, block: &Matrix, above: u32, below: u32) -> Result<Matrix, MatrixFault>
-    requires { fits_limits (above + (block.now.row_count + below)) block.now.column_count ≡ true }
-    ensures { IsMade result (stacked_of (zero_of block.now.prime above block.now.column_count) (stacked_of block.now (zero_of block.now.prime below block.now.column_count))) }
-{
-    let high = Matrix::zero(alloc, block.field(), above, block.cols())?;
-    let low = Matrix::zero(alloc, block.field(), below, block.cols())?;
-    let lower = block.stack(alloc, &low)?;
-    high.stack(alloc, &lower)
-}
-
-/// The coefficients of the unknowns' cells in a term.
-fn term_coefficients(
-    alloc: Global,
+/// Adds the coefficients of the unknowns' cells in a term, from column `col` on, in a buffer with `width` columns.
+fn add_term(
+    cells: &mut [u16],
     field: Field,
+    width: usize,
+    col: usize,
     unknowns: &[(u32, u32)],
     term: &Term<VecMor>,
-) -> Result<Matrix, MatrixFault>
+)
     requires term { IsTerm (vec_data field) unknowns.now term.now.left.row_count term.now.right.column_count term.now }
-    requires fits { fits_limits (cells_of unknowns.now) (term.now.left.row_count * term.now.right.column_count) ≡ true }
-    ensures value { IsMade result (in_rows field (term.now.left.row_count * term.now.right.column_count) unknowns.now term.now.unknown (kron_of (transposed_of term.now.left) term.now.right)) }
-    ensures sizes { IfOk result (λ m. Fits (size_of term.now.left) × Fits (size_of term.now.right)) }
+    requires few { cells_of unknowns.now ≤ 2048 }
+    requires size { length cells.old ≡ cells_of unknowns.now * width }
+    requires columns { col + term.now.left.row_count * term.now.right.column_count ≤ width }
+    requires small { (k : ℕ) → slice_index cells.old k < field }
+    ensures added { IsBlockAdded field width cells.old cells.new 0 col (cells_of unknowns.now) (term.now.left.row_count * term.now.right.column_count)
+        (entry (term_rows field unknowns.now (term.now.left.row_count * term.now.right.column_count) term.now).entries) }
+    ensures sizes { Fits (size_of term.now.left) × Fits (size_of term.now.right) }
 {
     let _ = field.prime();
     let (left, right) = (term.left.matrix(), term.right.matrix());
     let _ = left.cells();
     let _ = right.cells();
-    let at = term.unknown as usize;
-    let turned = left.transpose(alloc)?;
-    let block = turned.kron(alloc, right)?;
-    let above = cell_count(&unknowns[..at]);
-    let below = cell_count(&unknowns[at + 1..]);
-    placed(alloc, &block, above, below)
+    let row = cell_count(&unknowns[..term.unknown as usize]) as usize;
+    add_kron(cells, width, row, col, left, right);
 }
 
-/// The coefficients of the unknowns' cells in a sum of terms with the ends of the value.
-fn coefficients(
-    alloc: Global,
+/// Adds the coefficients of the unknowns' cells in the terms of an equation, from column `col` on.
+fn add_terms(
+    cells: &mut [u16],
     field: Field,
+    width: usize,
+    col: usize,
     unknowns: &[(u32, u32)],
     equation: &Equation<VecMor>,
-) -> Result<Matrix, MatrixFault>
+)
     requires terms { AreTerms field unknowns.now equation.now.value.row_count equation.now.value.column_count equation.now.terms }
-    requires fits { fits_limits (cells_of unknowns.now) (equation.now.value.row_count * equation.now.value.column_count) ≡ true }
-    ensures value { IsMade result (coefficients_of field unknowns.now (equation.now.value.row_count * equation.now.value.column_count) equation.now.terms) }
-    ensures sizes { IfOk result (λ m. (s : Size) → IsSizeOfFactor equation.now.terms s ⊎ IsSizeOf equation.now.value s → Fits s) }
+    requires few { cells_of unknowns.now ≤ 2048 }
+    requires size { length cells.old ≡ cells_of unknowns.now * width }
+    requires columns { col + equation.now.value.row_count * equation.now.value.column_count ≤ width }
+    requires small { (k : ℕ) → slice_index cells.old k < field }
+    ensures added { IsBlockAdded field width cells.old cells.new 0 col (cells_of unknowns.now) (equation.now.value.row_count * equation.now.value.column_count)
+        (entry (coefficients_of field unknowns.now (equation.now.value.row_count * equation.now.value.column_count) equation.now.terms).entries) }
+    ensures sizes { (s : Size) → IsSizeOfFactor equation.now.terms s → Fits s }
 {
     let _ = field.prime();
-    let value = equation.value.matrix();
-    let _ = value.cells();
-    let terms = equation.terms.as_slice();
-    let rows = cell_count(unknowns);
-    let mut sum = Matrix::zero(alloc, field, rows, value.rows() * value.cols())?;
-    for i in (0..terms.len()).rev() {
-        let term = term_coefficients(alloc, field, unknowns, &terms[i])?;
-        sum = term.sum(alloc, &sum)?;
+    for term in equation.terms.as_slice() {
+        add_term(cells, field, width, col, unknowns, term);
     }
-    Ok(sum)
 }
 
-/// The coefficients of the unknowns' cells in the equations, side by side.
-fn all_coefficients(
-    alloc: Global,
+/// Writes the matrix of a system to a buffer of zeros, block by block, and the row of its values.
+fn write_equations(
+    cells: &mut [u16],
+    values: &mut [u16],
     field: Field,
     unknowns: &[(u32, u32)],
     equations: &[Equation<VecMor>],
-) -> Result<Matrix, MatrixFault>
+)
     requires equations { AreEquations field unknowns.now equations.now }
-    requires fits { fits_limits (cells_of unknowns.now) (width_of equations.now) ≡ true }
-    ensures value { IsMade result (system_matrix field unknowns.now equations.now) }
-    ensures sizes { IfOk result (λ m. (s : Size) → IsSizeInEquations equations.now s → Fits s) }
+    requires few { cells_of unknowns.now ≤ 2048 }
+    requires narrow { width_of equations.now ≤ 2048 }
+    requires size { length cells.old ≡ cells_of unknowns.now * width_of equations.now }
+    requires width { length values.old ≡ width_of equations.now }
+    requires zeros { (k : ℕ) → slice_index cells.old k ≡ 0 }
+    ensures matrix { (i j : ℕ) → i < cells_of unknowns.now → j < width_of equations.now
+        → cell cells.new (width_of equations.now) i j ≡ entry (system_matrix field unknowns.now equations.now).entries i j }
+    ensures row { (j : ℕ) → j < width_of equations.now → slice_index values.new j ≡ entry (values_row field equations.now).entries 0 j }
+    ensures sizes { (s : Size) → IsSizeInEquations equations.now s → Fits s }
 {
     let _ = field.prime();
-    let rows = cell_count(unknowns);
-    let mut right = Matrix::zero(alloc, field, rows, 0)?;
-    for i in (0..equations.len()).rev() {
-        let left = coefficients(alloc, field, unknowns, &equations[i])?;
-        right = left.beside(alloc, &right)?;
+    let width = values.len();
+    let mut start: usize = 0;
+    for equation in equations {
+        let value = equation.value.matrix().cells();
+        let end = start + value.len();
+        values[start..end].copy_from_slice(value);
+        add_terms(cells, field, width, start, unknowns, equation);
+        start = end;
     }
-    Ok(right)
-}
-
-/// The cells of a matrix, row after row, as one row.
-fn flat(alloc: Global, x: &Matrix) -> Result<Matrix, MatrixFault>
-    requires { fits_limits 1 (x.now.row_count * x.now.column_count) ≡ true }
-    ensures { IsMade result (flat_row x.now) }
-{
-    let mut cells = Vec::new(alloc);
-    cells.extend_from_slice(x.cells())?;
-    Ok(Matrix::from_cells(x.field(), 1, x.rows() * x.cols(), cells))
-}
-
-/// The cells of the values, equation after equation, as one row.
-fn all_values(
-    alloc: Global,
-    field: Field,
-    equations: &[Equation<VecMor>],
-) -> Result<Matrix, MatrixFault>
-    requires values { (n : ℕ) (e : Equation Grid) → Nth equations.now n e → IsMatrix field e.value }
-    requires fits { fits_limits 1 (width_of equations.now) ≡ true }
-    ensures { IsMade result (values_row field equations.now) }
-{
-    let _ = field.prime();
-    let mut right = Matrix::zero(alloc, field, 1, 0)?;
-    for i in (0..equations.len()).rev() {
-        let left = flat(alloc, equations[i].value.matrix())?;
-        right = left.beside(alloc, &right)?;
-    }
-    Ok(right)
 }
 
 /// A stretch of cells.
@@ -193,19 +162,6 @@ fn parts(
     Ok(Items::new(matrices))
 }
 
-/// The matrix that was made, where nothing but memory can be wanting.
-fn made_within(made: Result<Matrix, MatrixFault>) -> Result<VecMor, CatFault>
-    requires { IfErr made (λ e. e ≡ NoMemory) }
-    ensures value { IfOk result (λ x. made ≡ Ok x) }
-    ensures fault { IfErr result (λ e. e ≡ no_memory) }
-{
-    match made {
-        Ok(matrix) => Ok(VecMor::new(matrix)),
-        Err(MatrixFault::NoMemory) => Err(CatFault::NoMemory),
-        Err(MatrixFault::TooLarge(_)) => unreachable!(),
-    }
-}
-
 /// The matrix of a system and the row of its values.
 fn row_equation(
     alloc: Global,
@@ -221,12 +177,15 @@ fn row_equation(
     let equations = s.equations.as_slice();
     let rows = cell_count(unknowns);
     let cols = value_count(equations);
-    if rows > 2048 || cols > 2048 || rows * cols > 1_048_576 {
+    if !fits(rows, cols) {
         return Err(CatFault::TooLarge { rows, cols });
     }
-    let matrix = made_within(all_coefficients(alloc, field, unknowns, equations))?;
-    let values = made_within(all_values(alloc, field, equations))?;
-    Ok((matrix, values))
+    let mut cells = vec![in alloc; 0u16; rows as usize * cols as usize]?;
+    let mut values = vec![in alloc; 0u16; cols as usize]?;
+    write_equations(&mut cells, &mut values, field, unknowns, equations);
+    let matrix = Matrix::from_cells(field, rows, cols, cells);
+    let row = Matrix::from_cells(field, 1, cols, values);
+    Ok((VecMor::new(matrix), VecMor::new(row)))
 }
 
 /// The canonical solution of a system: that of the row equation, cut into the unknowns; `None` where there is none.

@@ -18,7 +18,7 @@ use Rattle.cap_laws.proofs.Systems.{nth-unique}
 use Rattle.cap_laws.specs.declared.values.Term.{Term}
 use Rattle.cap_laws.specs.declared.values.Equation.{Equation}
 use Rattle.cap_vec_laws.specs.Vec.{vec_data}
-use Rattle.cap_vec_laws.specs.Systems.{cells_of, in_rows, coefficients_of, system_matrix, values_row, width_of, AreTerms, AreEquations}
+use Rattle.cap_vec_laws.specs.Systems.{cells_of, in_rows, term_rows, coefficients_of, system_matrix, values_row, width_of, AreTerms, AreEquations}
 use Rattle.cap_vec_laws.specs.RowEquation.{coefficient}
 use Rattle.cap_vec_laws.proofs.Arrows.{as-matrix, whole-matrix}
 use Rattle.cap_vec_laws.proofs.Systems.{in_rows-matrix, coefficients-matrix, system-matrix, values-matrix, terms_rest, equations_rest, place_parts, some_below}
@@ -79,10 +79,6 @@ module _ (p : ℕ) (pos : 1 ≤ p) where
       (λ less. in_rows-after q K (cells_of (take v us) + i) c (omega (arith, cells-apart q less)) (omega (arith, cells-within r)) below)
       (λ ge. in_rows-before q K (cells_of (take v us) + i) c (omega (arith, cells-apart r (let e : v < u = omega arith in e))) below)
       (cases_lt u v)
-
--- the coefficients of one term
-abbrev pub term_rows : ℕ → List (ℕ × ℕ) → ℕ → Term Grid → Grid
-term_rows p us n t = in_rows p n us t.unknown (kron_of (transposed_of t.left) t.right)
 
 -- an entry of a sum of coefficients, as a sum over the terms and block by block
 module _ (p : ℕ) (pos : 1 ≤ p) (us : List (ℕ × ℕ)) (a b : ℕ) where

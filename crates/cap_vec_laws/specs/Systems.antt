@@ -18,10 +18,14 @@ in_rows p n [] u k = zero_of p 0 n
 in_rows p n (a ∷ us) zero k = stacked_of k (zero_of p (cells_of us) n)
 in_rows p n (a ∷ us) (suc u) k = stacked_of (zero_of p (a.0 * a.1) n) (in_rows p n us u k)
 
--- the coefficients of the cells of the unknowns in a sum of n cells: l·X·r has those of l' ⊗ r
+-- the coefficients of the cells of the unknowns in a term of n cells: l·X·r has those of l' ⊗ r
+abbrev pub term_rows : ℕ → List (ℕ × ℕ) → ℕ → Term Grid → Grid
+term_rows p us n t = in_rows p n us t.unknown (kron_of (transposed_of t.left) t.right)
+
+-- and in a sum of terms
 abbrev pub coefficients_of : ℕ → List (ℕ × ℕ) → ℕ → List (Term Grid) → Grid
 coefficients_of p us n [] = zero_of p (cells_of us) n
-coefficients_of p us n (t ∷ ts) = sum_of (in_rows p n us t.unknown (kron_of (transposed_of t.left) t.right)) (coefficients_of p us n ts)
+coefficients_of p us n (t ∷ ts) = sum_of (term_rows p us n t) (coefficients_of p us n ts)
 
 -- the coefficients of all equations, side by side
 abbrev pub system_matrix : ℕ → List (ℕ × ℕ) → List (Equation Grid) → Grid
