@@ -155,23 +155,50 @@ module _ (p : ℕ) (t : is_tabled p ≡ true) where
   pub canonical-in : (op : ℕ) (args : List (ValueOver ObjData MorData)) (v : ValueOver ObjData MorData) → Fits (over p) op args
       → (vec_offer p t).answer op args v → IsCanonical p op (Reads p args) (Read p v)
   canonical-in op args v F x = answers-have Right (vec_primitives p t) (
-      (λ a v x r. at 1 a _ v _ x.1 x.2 (identity x.0)),
-      ((λ a v x r. at 2 a _ v _ x.2 x.3 (compose x.0 x.1)),
-      ((λ a v x r. at 3 a _ v _ x.2 x.3 (zero x.0 x.1)),
-      ((λ a v x r. at 4 a _ v _ x.2 x.3 (add x.0 x.1)),
-      ((λ a v x r. at 7 a _ v _ x.2 x.3 (scale x.0 x.1)),
-      ((λ a v x r. at 8 a _ v v x.2 refl (told x.0 x.1 v x.3)),
-      ((λ a v x r. at 10 a _ v _ x.0 x.1 zero_object),
-      ((λ a v x r. at 11 a _ v _ x.2 x.3 (direct_sum x.0 x.1)),
-      ((λ a v x r. at 16 a _ v _ x.1 x.2 (kernel x.0 (kernel_of p t x.0) (kernel_of-is p t x.0 (r.one x.0 x.1)))),
-      ((λ a v x r. at 18 a _ v _ x.1 x.2 (cokernel x.0 (kernel_of p t (transposed_of x.0)) (kernel_of-is p t (transposed_of x.0) (turned x.0 (r.one x.0 x.1))))),
-      ((λ a v x r. at 22 a _ v _ x.2 x.3 (lift x.0 x.1 (lift_of p t x.0 x.1) (lift_of-rows p t x.0 x.1 (r.two x.0 x.1 x.2).0 (r.two x.0 x.1 x.2).1 (r.lift refl x.0 x.1 x.2)))),
-      ((λ a v x r. at 23 a _ v _ x.2 x.3 (colift x.0 x.1 (lift_of p t (transposed_of x.1) (transposed_of x.0)) (lift_of-rows p t (transposed_of x.1) (transposed_of x.0) (turned x.1 (r.two x.0 x.1 x.2).1) (turned x.0 (r.two x.0 x.1 x.2).0) (sym (r.colift refl x.0 x.1 x.2))))),
-      ((λ a v x r. at 34 a _ v _ x.2 x.3 (pullback x.0 x.1 (kernel_of p t (stacked_difference x.0 x.1)) (kernel_of-is p t (stacked_difference x.0 x.1) (difference_is p t x.0 x.1 (r.two x.0 x.1 x.2).0 (r.two x.0 x.1 x.2).1 (r.pullback refl x.0 x.1 x.2)).is))),
-      ((λ a v x r. let f' = transposed_of x.0 in
-        let g' = transposed_of x.1 in
-        at 35 a _ v _ x.2 x.3 (pushout x.0 x.1 (kernel_of p t (stacked_difference f' g')) (kernel_of-is p t (stacked_difference f' g') (difference_is p t f' g' (turned x.0 (r.two x.0 x.1 x.2).0) (turned x.1 (r.two x.0 x.1 x.2).1) (r.pushout refl x.0 x.1 x.2)).is))),
-      tt))))))))))))))
+    (λ a v x r. at 1 a _ v _ x.1 x.2 (identity x.0)),
+    (
+      (λ a v x r. at 2 a _ v _ x.2 x.3 (compose x.0 x.1)),
+      (
+        (λ a v x r. at 3 a _ v _ x.2 x.3 (zero x.0 x.1)),
+        (
+          (λ a v x r. at 4 a _ v _ x.2 x.3 (add x.0 x.1)),
+          (
+            (λ a v x r. at 7 a _ v _ x.2 x.3 (scale x.0 x.1)),
+            (
+              (λ a v x r. at 8 a _ v v x.2 refl (told x.0 x.1 v x.3)),
+              (
+                (λ a v x r. at 10 a _ v _ x.0 x.1 zero_object),
+                (
+                  (λ a v x r. at 11 a _ v _ x.2 x.3 (direct_sum x.0 x.1)),
+                  (
+                    (λ a v x r. at 16 a _ v _ x.1 x.2 (kernel x.0 (kernel_of p t x.0) (kernel_of-is p t x.0 (r.one x.0 x.1)))),
+                    (
+                      (λ a v x r. at 18 a _ v _ x.1 x.2 (cokernel x.0 (kernel_of p t (transposed_of x.0)) (kernel_of-is p t (transposed_of x.0) (turned x.0 (r.one x.0 x.1))))),
+                      (
+                        (λ a v x r. at 22 a _ v _ x.2 x.3 (lift x.0 x.1 (lift_of p t x.0 x.1) (lift_of-rows p t x.0 x.1 (r.two x.0 x.1 x.2).0 (r.two x.0 x.1 x.2).1 (r.lift refl x.0 x.1 x.2)))),
+                        (
+                          (λ a v x r. at 23 a _ v _ x.2 x.3 (colift x.0 x.1 (lift_of p t (transposed_of x.1) (transposed_of x.0)) (lift_of-rows p t (transposed_of x.1) (transposed_of x.0) (turned x.1 (r.two x.0 x.1 x.2).1) (turned x.0 (r.two x.0 x.1 x.2).0) (sym (r.colift refl x.0 x.1 x.2))))),
+                          (
+                            (λ a v x r. at 34 a _ v _ x.2 x.3 (pullback x.0 x.1 (kernel_of p t (stacked_difference x.0 x.1)) (kernel_of-is p t (stacked_difference x.0 x.1) (difference_is p t x.0 x.1 (r.two x.0 x.1 x.2).0 (r.two x.0 x.1 x.2).1 (r.pullback refl x.0 x.1 x.2)).is))),
+                            (
+                              (λ a v x r. let f' = transposed_of x.0 in
+                                  let g' = transposed_of x.1 in
+                                  at 35 a _ v _ x.2 x.3 (pushout x.0 x.1 (kernel_of p t (stacked_difference f' g')) (kernel_of-is p t (stacked_difference f' g') (difference_is p t f' g' (turned x.0 (r.two x.0 x.1 x.2).0) (turned x.1 (r.two x.0 x.1 x.2).1) (r.pushout refl x.0 x.1 x.2)).is))),
+                              tt,
+                            ),
+                          ),
+                        ),
+                      ),
+                    ),
+                  ),
+                ),
+              ),
+            ),
+          ),
+        ),
+      ),
+    ),
+  )
       op (Reads p args) (Read p v) x.answers (ready p op args F x.arguments)
 
 pub canonical : AnswersAreCanonical

@@ -56,6 +56,6 @@ arrow-matrix p t f F = record {
 
 pub morphisms_are : MorphismsAreMatrices
 morphisms_are = λ p t f. (
-    λ F. arrow-matrix p t f (of-number (λ D. IsArrow D.category f) p t F),
-    λ M. to-number (λ D. IsArrow D.category f) p t (matrix-arrow p t f M),
-  )
+  λ F. arrow-matrix p t f (of-number (λ D. IsArrow D.category f) p t F),
+  λ M. to-number (λ D. IsArrow D.category f) p t (matrix-arrow p t f M),
+)

@@ -30,8 +30,7 @@ module _ (p : ℕ) (t : is_tabled p ≡ true) where
   pub vec_are : ArePrimitives (vec_data p) (vec_primitives p t)
   vec_are =
       let V = vec_data p in
-      let L = vec_linear p t in
-      (
+      let L = vec_linear p t in (
         identity-is V L _,
         (
           compose-is V L _,
