@@ -1,14 +1,11 @@
 -- The cells of unknowns, and counts that are cut.
-use Rattle.std.proofs.Common.{◌≡◌, ℕ, suc, ◌+◌, ◌-◌, ◌*◌, ◌<◌, ◌≤◌, List, [], ◌∷◌, min, rules, length, take, drop, get_or, refl, sym, ap, ◌∙◌, subst, arith, ⊎_elim}
-use Rattle.std.proofs.lemmas.Bool.{cases_lt}
-use Rattle.cap_matrix.specs.Grid.{Grid, IsMatrixOf, entry, matrix_by, zero_of, stacked_of}
+use Rattle.std.proofs.Common.{◌≡◌, ℕ, suc, ◌+◌, ◌*◌, ◌<◌, List, [], ◌∷◌, min, rules, length, take, drop, get_or, refl, sym, ap, ◌∙◌, subst, arith}
+use Rattle.cap_matrix.specs.Grid.{Grid, matrix_by}
 use Rattle.cap_matrix.proofs.Rows.{rows_by-same}
-use Rattle.cap_matrix.proofs.Entries.{matrix_ext, zero-matrix, zero-at}
-use Rattle.cap_matrix.proofs.Blocks.{stacked-matrix, stacked-low, stacked-high}
 use Rattle.cap_laws.specs.Systems.{Nth}
 use Rattle.cap_laws.specs.Systems.Nth.{here, further}
 use Rattle.cap_laws.proofs.Systems.{nth-exists, nth-get}
-use Rattle.cap_vec_laws.specs.Systems.{cells_of, in_rows}
+use Rattle.cap_vec_laws.specs.Systems.{cells_of}
 
 -- matrices with equal entries
 pub by_entries : (p n m : ℕ) (f g : ℕ → ℕ → ℕ) → ((i j : ℕ) → i < n → j < m → f i j ≡ g i j) → matrix_by p n m f ≡ matrix_by p n m g

@@ -4,7 +4,7 @@ use Rattle.std.proofs.lemmas.Nat.{div_below, mod_below}
 use Rattle.std.proofs.lemmas.Bool.{cases_eq, cases_lt, false≢true}
 use Rattle.std.proofs.Math.Nat.{add-zero, mod-eq_of_lt, div-add-mod'}
 use borrow.Rule.Slice.PartMut.{put_mid}
-use Rattle.cap_matrix.specs.Grid.{Grid, IsMatrix, IsMatrixOf, entry, fits_limits}
+use Rattle.cap_matrix.specs.Grid.{Grid, IsMatrixOf, entry, fits_limits}
 use Rattle.cap_matrix.specs.Buffer.{matrix_of, IsBufferOf}
 use Rattle.cap_matrix.proofs.Buffers.{each_place, buffer-at}
 use Rattle.cap_matrix.proofs.Entries.{matrix_ext, matrix_by-at, matrix_by-is, small-at}

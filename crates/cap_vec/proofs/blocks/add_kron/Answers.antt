@@ -1,5 +1,5 @@
 use Rattle.std.proofs.Common.{◌≡◌, ℕ, ◌+◌, ◌-◌, ◌*◌, ◌/◌, ◌%◌, ◌<◌, ◌≤◌, get_or, length, take, drop, sym, ap, ◌∙◌, subst, arith, rules}
-use Rattle.std.proofs.lemmas.Nat.{row_fits, div_below, mod_below}
+use Rattle.std.proofs.lemmas.Nat.{row_fits, mod_below}
 use Rattle.cap_matrix.specs.Grid.{entry, kron_of, transposed_of, IsMatrixOf}
 use Rattle.cap_matrix.proofs.Buffers.{buffer_matrix}
 use Rattle.cap_matrix.proofs.Writes.{some_below}

@@ -1,4 +1,4 @@
-use Rattle.std.proofs.Common.{subst, [], get_or, List, ℕ}
+use Rattle.std.proofs.Common.{subst, [], get_or}
 use Rattle.cap_matrix.specs.Grid.{Grid}
 use Rattle.cap_reduce.specs.declared.solving.SolvedRows.{SolvedRows}
 use Rattle.cap_reduce.specs.Answers.{AreSolved, AreSolutions, IsFirstOutside}

@@ -1,6 +1,6 @@
-use Rattle.std.proofs.Common.{◌≡◌, ℕ, ◌+◌, ◌-◌, ◌*◌, ◌^◌, ◌<◌, min, inr, true, List, length, get_or, refl, sym, ap, ◌∙◌, subst, arith}
+use Rattle.std.proofs.Common.{◌≡◌, ℕ, ◌-◌, ◌*◌, ◌^◌, ◌<◌, min, inr, List, length, get_or, refl, sym, ap, ◌∙◌, subst, arith}
 use Rattle.std.proofs.lemmas.List.{with_items_is}
-use Rattle.cap_matrix.specs.Grid.{Grid, IsMatrixOf, entry, fits_limits}
+use Rattle.cap_matrix.specs.Grid.{Grid, IsMatrixOf, entry}
 use Rattle.cap_matrix.specs.Buffer.{matrix_of}
 use Rattle.cap_matrix.proofs.Filled.{fits_parts}
 use Rattle.cap_reduce.specs.Flat.{cell}

@@ -1,10 +1,9 @@
-use Rattle.std.proofs.Common.{◌≡◌, ℕ, ◌+◌, ◌-◌, ◌*◌, ◌<◌, ◌≤◌, List, length, take, get_or, sym, ap, ◌∙◌, subst, arith, rules}
+use Rattle.std.proofs.Common.{◌≡◌, ℕ, ◌+◌, ◌-◌, ◌*◌, ◌<◌, ◌≤◌, List, length, get_or, sym, subst, arith, rules}
 use borrow.Rule.Slice.PartMut.{put_mid}
 use Rattle.cap_matrix.specs.Grid.{Grid, entry}
 use Rattle.cap_matrix.specs.Buffer.{IsBufferOf}
 use Rattle.cap_reduce.specs.Flat.{cell}
 use Rattle.cap_laws.specs.Answers.{Size, Fits}
-use Rattle.cap_laws.specs.declared.values.Equation.{Equation}
 use Rattle.cap_vec_laws.specs.Systems.{cells_of, system_matrix, values_row}
 use Rattle.cap_vec_laws.proofs.Members.{positive}
 use Rattle.cap_vec.specs.Sizes.{size_of}
