@@ -1,5 +1,6 @@
 // Whether arguments are data of a board.
 ghost use Rattle.std.specs.Prelude.{◌≡◌, IsTrue};
+ghost use Rattle.cap_matrix.specs.Grid.{IsMatrixOf};
 ghost use Rattle.cap_ops.specs.Arrows.{arguments};
 ghost use Rattle.cap_ops.specs.Told.{Known, told_in};
 ghost use Rattle.cap_list_board.specs.Benches.{IsBench, IsArrowOf, IsArgumentOf};
@@ -7,8 +8,19 @@ ghost use Rattle.cap_list_board.specs.Benches.{IsBench, IsArrowOf, IsArgumentOf}
 use super::benches::Bench;
 use cap_data::{MorData, ObjData};
 use cap_field::Field;
+use cap_matrix::Matrix;
 use cap_ops::{Arg, Arrow, Offer};
 use cap_vec_offer::VecOffer;
+
+/// Whether a matrix is over the field and has this size.
+fn is_matrix(m: &Matrix, field: Field, rows: u32, cols: u32) -> bool
+    ensures { IsTrue result → IsMatrixOf field rows cols m.now }
+{
+    if m.field().prime() != field.prime() || m.rows() != rows {
+        return false;
+    }
+    m.cols() == cols
+}
 
 /// Whether a morphism is a matrix over the field between objects that were told.
 fn is_arrow(objects: &[ObjData], field: Field, f: &Arrow<MorData>) -> bool
@@ -21,7 +33,7 @@ fn is_arrow(objects: &[ObjData], field: Field, f: &Arrow<MorData>) -> bool
     }
     match (&objects[src], &objects[tgt], &f.value) {
         (ObjData::Dim(rows), ObjData::Dim(cols), MorData::Mat(m)) => {
-            m.field().prime() == field.prime() && m.rows() == *rows && m.cols() == *cols
+            is_matrix(m, field, *rows, *cols)
         }
         _ => false,
     }

@@ -5,7 +5,7 @@ use Rattle.cap_ops.specs.Told.{Known, told_in}
 use Rattle.cap_board.specs.Board.{ToldObjects}
 use Rattle.cap_vec_offer.specs.Offer.{matrix_offer}
 use Rattle.cap_list_board.specs.Benches.{IsArgumentOf}
-use Rattle.cap_list_board.proofs.Readied.{none-known, one-more-known}
+use Rattle.cap_list_board.proofs.Readied.{one-more-known}
 use Rattle.cap_list_board.proofs.tests.known.are_known.Goals as goal
 
 pub loop-arg-init : goal.loop-arg-init
