@@ -1,0 +1,2 @@
+pub mod ArgumentNeeds
+pub mod OneMore

@@ -1,0 +1,4 @@
+pub mod Worlds
+pub mod Commands
+pub mod Accounts
+pub mod Arguments

@@ -1,0 +1,6 @@
+use Rattle.std.specs.List.{All}
+use Rattle.cap_offer.specs.Literals.{IsInteger}
+use Rattle.cap_bench_offer.proofs.random_row.Given as goal
+
+abbrev pub invariant-loop : goal.invariant-loop
+invariant-loop l = All IsInteger l.row.items

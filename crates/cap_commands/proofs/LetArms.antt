@@ -1,0 +1,56 @@
+-- A morphism literal between two told objects, at its seat, does what the accounts say.
+use Rattle.std.proofs.Common.{◌≡◌, ℕ, List, [], ◌++◌, Option, Some, Result, Ok, Err, sym, subst, refl, inl, inr}
+use Rattle.cap_names.specs.declared.identifiers.Handle.{Handle}
+use Rattle.cap_names.specs.declared.literals.MorLit.{MorLit}
+use Rattle.cap_grammar.specs.declared.tree.RefTok.{RefTok}
+use Rattle.cap_grammar.specs.declared.tree.Command.TheVariants as command
+use Rattle.cap_ops.specs.Told.{told_in}
+use Rattle.cap_rules.specs.Table.{rule_table}
+use Rattle.cap_data.specs.declared.data.ObjData.{ObjData}
+use Rattle.cap_data.specs.declared.data.MorData.{MorData}
+use Rattle.cap_data.specs.Counts.{cells_in_object, cells_in_morphism}
+use Rattle.cap_offer.specs.Labels.{Label, any_offer}
+use Rattle.cap_history.specs.Reading.{objects}
+use Rattle.cap_legal.proofs.Longer.{told-longer}
+use Rattle.cap_report.specs.declared.lines.LineAnswer.{LineAnswer}
+use Rattle.cap_report.specs.declared.lines.LineAnswer.TheVariants as line
+use Rattle.cap_report.specs.declared.lines.LineRefusal.{LineRefusal}
+use Rattle.cap_report.specs.declared.lines.LineRefusal.TheVariants as refusal
+use Rattle.cap_report.specs.declared.situation.Made.{Made}
+use Rattle.cap_accounts.specs.Commands.{object_at, Reads, NoEvent}
+use Rattle.cap_desk.specs.Woven.{AreOthers}
+use Rattle.cap_seat.specs.Seats.{told_at, Holds}
+use Rattle.cap_commands.specs.Kinds.{kinds, MorphismIs}
+use Rattle.cap_commands.specs.Agreement.{Standing}
+use Rattle.cap_commands.specs.Seats.{AtSeat, OfData}
+use Rattle.cap_commands.specs.Doing.{IsFullSeen, DoesAt, MorphismDoes, literal_line, in_category}
+use Rattle.cap_commands.proofs.EventArms.{nothing-at}
+
+module _ (others : List OfData → Type 0) (are : AreOthers others) (S : Standing) (made : Made Label) (s : AtSeat) (a b : Handle) (from to : ObjData) (lit : MorLit) where
+  -- a morphism literal is not refused since a history is full
+  morphism-not-full : (why : LineRefusal) (seen : List OfData) → MorphismIs made.category from to lit (Err why) → IsFullSeen seen (line.Refused why)
+  morphism-not-full (refusal.Full n k) seen e = absurd e
+  morphism-not-full _ seen e = tt
+
+  read-not-full : (read : Result MorData LineRefusal) (seen : List OfData) → MorphismIs made.category from to lit read → IsFullSeen seen (literal_line a b read)
+  read-not-full (Ok f) seen e = tt
+  read-not-full (Err why) seen e = morphism-not-full why seen e
+
+  abbrev IsRead : List OfData → LineAnswer MorData → Type 0
+  IsRead entries answer = Reads kinds rule_table s.session (MorphismIs made.category from to lit) (λ f es l. NoEvent kinds rule_table s.session es l (line.Morphism (record { src = a; tgt = b; value = f }))) entries answer
+
+  read-reads : (read : Result MorData LineRefusal) → MorphismIs made.category from to lit read → IsRead [] (literal_line a b read)
+  read-reads (Ok f) e = inr (f, e, (refl, refl))
+  read-reads (Err why) e = inl (why, e, (refl, refl))
+
+  read-at : (cat name : List ℕ) (src tgt : RefTok) → object_at S src ≡ Some a → object_at S tgt ≡ Some b → Holds (any_offer s.offer) cells_in_object cells_in_morphism s → told_at s a ≡ Some from → told_at s b ≡ Some to
+      → (read : Result MorData LineRefusal) → MorphismIs made.category from to lit read → DoesAt others (in_category s.session S made (command.Let name cat src tgt lit)) s (literal_line a b read) s
+  read-at cat name src tgt is-source is-target holds source target read e =
+      nothing-at others are (in_category s.session S made (command.Let name cat src tgt lit)) s (literal_line a b read) (read-not-full read s.seen e)
+      (λ later. (a, b, from, to, is-source, is-target, told-longer s.seen later a from (holds.told a from source), told-longer s.seen later b to (holds.told b to target), read-reads read e))
+
+pub let-at : (others : List OfData → Type 0) → AreOthers others → (S : Standing) (made : Made Label) (s : AtSeat) (cat name : List ℕ) (src tgt : RefTok) (lit : MorLit) (a b : Handle) → object_at S src ≡ Some a → object_at S tgt ≡ Some b
+    → Holds (any_offer s.offer) cells_in_object cells_in_morphism s → (answer : LineAnswer MorData) → MorphismDoes made.category (told_at s) a b lit answer → DoesAt others (in_category s.session S made (command.Let name cat src tgt lit)) s answer s
+let-at others are S made s cat name src tgt lit a b is-source is-target holds answer m =
+    subst (λ l. DoesAt others (in_category s.session S made (command.Let name cat src tgt lit)) s l s) (sym m.answered)
+    (read-at others are S made s a b m.from m.to lit cat name src tgt is-source is-target holds m.source m.target m.read m.is)

@@ -1,0 +1,11 @@
+pub mod References
+pub mod CallArguments
+pub mod EventArms
+pub mod CallArms
+pub mod LetArms
+pub mod Ready
+pub mod Weights
+pub mod OwnEntries
+pub mod Seating
+pub mod Clauses
+pub mod Running

@@ -1,0 +1,5 @@
+pub mod Kinds
+pub mod Agreement
+pub mod Seats
+pub mod Doing
+pub mod Running

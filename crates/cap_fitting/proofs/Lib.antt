@@ -1,0 +1,14 @@
+pub mod Lists
+pub mod Values
+pub mod Categories
+pub mod Places
+pub mod Texts
+pub mod Checked
+pub mod Marks
+pub mod Free
+pub mod Limits
+pub mod Fit
+pub mod Faultless
+pub mod Sound
+pub mod Literals
+pub mod Examples

@@ -1,0 +1,4 @@
+pub mod Reading
+pub mod Replies
+pub mod May
+pub mod Laws

@@ -1,0 +1,5 @@
+pub mod Values
+pub mod Steps
+pub mod Histories
+pub mod Longer
+pub mod Asking

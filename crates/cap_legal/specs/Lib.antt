@@ -1,0 +1,3 @@
+pub mod Legal
+pub mod Good
+pub mod Laws

@@ -1,0 +1,4 @@
+pub mod Offers
+pub mod Cells
+pub mod Literals
+pub mod Known

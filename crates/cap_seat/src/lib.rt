@@ -1,0 +1,11 @@
+//! A session's place before a category: a board over a desk.
+#![tactic(auto)]
+
+mod board;
+mod entering;
+mod known;
+mod seat;
+mod tries;
+
+pub use seat::Seat;
+pub use tries::{Tried, Try};

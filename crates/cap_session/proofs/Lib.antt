@@ -1,0 +1,4 @@
+pub mod Refused
+pub mod Recording
+pub mod Does
+pub mod Goes

@@ -1,0 +1,5 @@
+pub mod Systems
+pub mod Answers
+pub mod Sums
+pub mod WeakKernels
+pub mod Laws

@@ -1,0 +1,8 @@
+use Rattle.std.proofs.Common.{ap, sym, subst}
+use Rattle.cap_store.specs.Parts.{kept_of}
+use Rattle.cap_store.proofs.FromHistory.{final-as}
+use Rattle.cap_history.specs.Replies.{IsFinal}
+use Rattle.cap_store.proofs.state.CatState.plan_reply.Goals as goal
+
+pub returns-in_ok-new-in-Some : goal.returns-in_ok-new-in-Some
+returns-in_ok-new-in-Some g c = (c.in-Some.finality.at, subst (IsFinal c.args.self.now.entries c.in-Some.finality.at) (sym c.in_ok-new-in-Some.ensures) (final-as g.O.Datum.cells_of g.M.Datum.cells_of (record { kind = c.self.inside.kind; offered = c.self.inside.offered; costs = c.self.inside.costs }) (kept_of c.self.inside.parts) c.self.invariant c.args.self.now.entries (ap (λ l. l.entries) c.self.view_is) c.in-Some.finality c.in-Some.is))

@@ -1,0 +1,5 @@
+pub mod State
+pub mod Inside
+pub mod Parts
+pub mod Lookups
+pub mod Tested

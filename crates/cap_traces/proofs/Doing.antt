@@ -1,0 +1,125 @@
+-- A chain's events and answers are what its commands do.
+use Rattle.std.proofs.Common.{◌≡◌, ℕ, List, [], ◌∷◌, ◌++◌, length, Option, Some, None, map, refl, sym, ap, ◌∙◌, subst, slice_get, append_assoc, arith}
+use Rattle.std.specs.Prelude.{option_map}
+use Rattle.std.specs.List.{position_or_len}
+use Rattle.std.proofs.lemmas.List.{append-nil, length-append, nil_from_length}
+use Rattle.std.proofs.lemmas.List.Folds.{find_at}
+use Rattle.std.proofs.lemmas.Option.{slice_get-map}
+use Rattle.cap_names.specs.declared.identifiers.CatNo.{CatNo}
+use Rattle.cap_names.specs.declared.identifiers.SessionNo.{SessionNo}
+use Rattle.cap_names.specs.declared.literals.MorLit.{MorLit}
+use Rattle.cap_grammar.specs.declared.tree.Command.{Command}
+use Rattle.cap_block_faults.specs.Names.{same}
+use Rattle.cap_checked.specs.declared.tree.CheckedObj.{CheckedObj}
+use Rattle.cap_rules.specs.Table.{rule_table}
+use Rattle.cap_data.specs.declared.data.ObjData.{ObjData}
+use Rattle.cap_data.specs.declared.data.MorData.{MorData}
+use Rattle.cap_desk.specs.Books.{frame}
+use Rattle.cap_desk.specs.Woven.{IsNothing}
+use Rattle.cap_legal.specs.Legal.{Legal}
+use Rattle.cap_data.specs.Counts.{cells_in_object, cells_in_morphism}
+use Rattle.cap_offer.specs.Labels.{Label, any_offer}
+use Rattle.cap_report.specs.declared.lines.LineAnswer.{LineAnswer}
+use Rattle.cap_report.specs.declared.lines.LineAnswer.TheVariants as line
+use Rattle.cap_report.specs.declared.lines.LineRefusal.TheVariants as refusal
+use Rattle.cap_report.specs.declared.report.History.{History}
+use Rattle.cap_report.specs.declared.situation.Made.{Made}
+use Rattle.cap_report.specs.Histories.{entries_or_none, history_of}
+use Rattle.cap_report.specs.Named.{bound_name}
+use Rattle.cap_accounts.specs.Commands.{category_of}
+use Rattle.cap_accounts.specs.Accounts.{of_category, with_bound, FullEnds, CommandsDo}
+use Rattle.cap_commands.specs.Agreement.{Standing}
+use Rattle.cap_commands.specs.Kinds.{kinds}
+use Rattle.cap_commands.specs.Seats.{AtSeat, OfData, IsSeat, AreSeats, seen_or_none, seen_at, AreWhole, FullIsWhole, CommandRuns}
+use Rattle.cap_traces.specs.Chains.{Chain}
+use Rattle.cap_traces.proofs.Pairs.{zip-left, zip-right}
+use Rattle.cap_traces.proofs.Growing.{seats-behind, seats-before, grown, seats-stay, whole-before}
+
+-- what the seats have seen, as whole histories
+abbrev history_at : AtSeat → History ObjData MorData
+history_at s = record { cat = record { 0 = 0 }; entries = s.seen }
+
+seen-alone-or : (o : Option AtSeat) → entries_or_none (option_map history_at o) ≡ seen_or_none o
+seen-alone-or None = refl
+seen-alone-or (Some s) = refl
+
+seen-alone : (seats : List AtSeat) (n : ℕ) → history_of (map history_at seats) n ≡ seen_at seats n
+seen-alone seats n = ap entries_or_none (slice_get-map history_at seats n) ∙ seen-alone-or (slice_get seats n)
+
+module _ (session : SessionNo) (S : Standing) where
+  whole-alone : (seats : List AtSeat) → AreSeats session S seats → AreWhole (map history_at seats) seats
+  whole-alone seats A n s is =
+      let made = zip-left (IsSeat session) S.categories seats n s A.all is in
+      let seen : history_of (map history_at seats) n ≡ s.seen = seen-alone seats n ∙ ap seen_or_none is in
+      record { later = []; whole = seen ∙ sym (append-nil s.seen); legal = subst (λ es. Legal (frame (any_offer s.offer) cells_in_object cells_in_morphism) es) (sym seen) made.2.holds.legal }
+
+  -- where a category's name is found, it stands at its number
+  found-there : (name : List ℕ) (m : Made Label) (seats : List AtSeat) → AreSeats session S seats → category_of S name ≡ Some m → slice_get S.categories m.number.0 ≡ Some m
+  found-there name m seats A e =
+      let place = position_or_len (λ m. same m.name name) S.categories in
+      let at : slice_get S.categories place ≡ Some m = sym (find_at (λ m. same m.name name) S.categories) ∙ e in
+      subst (λ i. slice_get S.categories i ≡ Some m) (sym (A.numbered place m at)) at
+
+  nothing-later : (whole seen own later : List OfData) → whole ≡ (seen ++ own) ++ later → length whole ≡ length seen → own ≡ []
+  nothing-later whole seen own later e l =
+      nil_from_length own (omega (arith, sym l ∙ ap length e, length-append (seen ++ own) later, length-append seen own))
+
+  -- a full history has no later entry
+  full-ends : (c : Command CheckedObj MorLit) (a : LineAnswer MorData) (between seats' : List AtSeat) (later : List (CatNo × OfData)) → AreSeats session S between → AreSeats session S seats'
+      → ((n : ℕ) → seen_at seats' n ≡ seen_at between n ++ of_category n later) → ((histories : List (History ObjData MorData)) → AreWhole histories between → FullIsWhole histories S c a)
+      → (histories : List (History ObjData MorData)) → AreWhole histories seats' → AreWhole histories between → FullEnds kinds rule_table histories S c a later
+  full-ends c (line.Refused (refusal.Full n k)) between seats' later A B more full histories W V =
+      let now = full histories V in
+      let then = full (map history_at between) (whole-alone between A) in
+      let same : then.0 ≡ now.0 = let name = then.1.named in cc in
+      let seat = zip-right (IsSeat session) S.categories seats' now.1.made.number.0 now.1.made B.all (found-there now.1.name now.1.made seats' B now.1.is) in
+      let number : now.1.made.number.0 ≡ now.0.0 = ap (λ c. c.0) now.1.number in
+      let there : slice_get seats' now.0.0 ≡ Some seat.0 = subst (λ i. slice_get seats' i ≡ Some seat.0) number seat.1 in
+      let whole = W now.0.0 seat.0 there in
+      let long : length (history_of histories now.0.0) ≡ length (seen_at between now.0.0) =
+      sym now.1.entries ∙ then.1.entries ∙ ap length (seen-alone between then.0.0) ∙ ap (λ c. length (seen_at between c.0)) same in
+      let seen : seat.0.seen ≡ seen_at between now.0.0 ++ of_category now.0.0 later = sym (ap seen_or_none there) ∙ more now.0.0 in
+      (now.0, now.1, nothing-later (history_of histories now.0.0) (seen_at between now.0.0) (of_category now.0.0 later) whole.later (whole.whole ∙ ap (λ es. es ++ whole.later) seen) long)
+  full-ends c _ between seats' later A B more full histories W V = tt
+
+module _ (session : SessionNo) where
+  pub chain-does : (S S' : Standing) (seats seats' : List AtSeat) (cs : List (Command CheckedObj MorLit)) (events : List (CatNo × OfData)) (answers : List (LineAnswer MorData))
+      → Chain IsNothing session S seats cs events answers S' seats' → (histories : List (History ObjData MorData)) → AreWhole histories seats' → CommandsDo kinds rule_table histories session S cs events answers
+  chain-does S S' seats seats' [] events answers C histories W = (C.0, C.1)
+  chain-does S S' seats seats' (c ∷ cs) events answers (first, later, a, rest, between, e, f, runs, are, chain) histories W =
+      let T = with_bound S (bound_name c) a in
+      let behind = seats-behind session S (bound_name c) a between are in
+      let stay = seats-stay session T between cs later rest S' seats' chain behind in
+      let here = seats-before session S (bound_name c) a seats' stay in
+      let more : (n : ℕ) → seen_at seats' n ≡ seen_at between n ++ of_category n later = grown session T between cs later rest S' seats' chain in
+      let V = whole-before session S between seats' (λ n. of_category n later) are here more histories W in
+      subst (CommandsDo kinds rule_table histories session S (c ∷ cs) events) (sym f)
+      (first, later, e, runs.does histories V, full-ends session S c a between seats' later are here more runs.full histories W V, chain-does T S' between seats' cs later rest chain histories W)
+
+  pub chain-more : (S between : Standing) (seats middle seats' : List AtSeat) (cs : List (Command CheckedObj MorLit)) (c : Command CheckedObj MorLit) (events own : List (CatNo × OfData))
+      (answers : List (LineAnswer MorData)) (a : LineAnswer MorData) → Chain IsNothing session S seats cs events answers between middle → CommandRuns IsNothing session between middle c own a seats'
+      → AreSeats session between seats' → Chain IsNothing session S seats (cs ++ c ∷ []) (events ++ own) (answers ++ a ∷ []) (with_bound between (bound_name c) a) seats'
+  chain-more S between seats middle seats' [] c events own answers a C runs are = (
+    own,
+    [],
+    a,
+    [],
+    seats',
+    ap (λ es. es ++ own) C.0 ∙ sym (append-nil own),
+    ap (λ answers. answers ++ a ∷ []) C.1,
+    subst (λ ss. CommandRuns IsNothing session S ss c own a seats') C.3 (subst (λ T. CommandRuns IsNothing session T middle c own a seats') C.2 runs),
+    subst (λ T. AreSeats session T seats') C.2 are,
+    (refl, refl, ap (λ T. with_bound T (bound_name c) a) C.2, refl),
+  )
+  chain-more S between seats middle seats' (d ∷ cs) c events own answers a (first, later, b, rest, next, e, f, first_runs, first_are, chain) runs are = (
+    first,
+    later ++ own,
+    b,
+    rest ++ a ∷ [],
+    next,
+    ap (λ es. es ++ own) e ∙ append_assoc first later own,
+    ap (λ answers. answers ++ a ∷ []) f,
+    first_runs,
+    first_are,
+    chain-more (with_bound S (bound_name d) b) between next middle seats' cs c later own rest a chain runs are,
+  )

@@ -1,0 +1,78 @@
+-- What sessions see over a chain, where nothing comes between own entries: it grows by these.
+use Rattle.std.proofs.Common.{◌≡◌, ℕ, ◌==◌, if◌then◌else◌, List, [], ◌∷◌, ◌++◌, Option, Some, None, refl, sym, ap, ◌∙◌, subst, append_assoc}
+use Rattle.std.proofs.lemmas.List.{append-nil}
+use Rattle.std.proofs.lemmas.List.Elements.{filter_map-append}
+use Rattle.cap_names.specs.declared.identifiers.CatNo.{CatNo}
+use Rattle.cap_names.specs.declared.identifiers.SessionNo.{SessionNo}
+use Rattle.cap_names.specs.declared.literals.MorLit.{MorLit}
+use Rattle.cap_grammar.specs.declared.tree.Command.{Command}
+use Rattle.cap_checked.specs.declared.tree.CheckedObj.{CheckedObj}
+use Rattle.cap_data.specs.declared.data.ObjData.{ObjData}
+use Rattle.cap_data.specs.declared.data.MorData.{MorData}
+use Rattle.cap_desk.specs.Books.{frame}
+use Rattle.cap_desk.specs.Woven.{IsNothing}
+use Rattle.cap_desk.proofs.Weaving.{woven-alone}
+use Rattle.cap_legal.specs.Legal.{Legal}
+use Rattle.cap_offer.specs.Labels.{any_offer}
+use Rattle.cap_data.specs.Counts.{cells_in_object, cells_in_morphism}
+use Rattle.cap_report.specs.declared.lines.LineAnswer.{LineAnswer}
+use Rattle.cap_report.specs.declared.report.History.{History}
+use Rattle.cap_report.specs.Histories.{history_of}
+use Rattle.cap_report.specs.Named.{bound_name}
+use Rattle.cap_accounts.specs.Accounts.{of_category, with_bound}
+use Rattle.cap_commands.specs.Agreement.{Standing}
+use Rattle.cap_commands.specs.Seats.{AtSeat, OfData, IsSeat, AreSeats, seen_or_none, seen_at, AreWhole}
+use Rattle.cap_traces.specs.Chains.{Chain}
+use Rattle.cap_traces.proofs.Pairs.{zip-left, zip-right}
+
+-- the events of a category in two lists
+pub of-both : (n : ℕ) (xs ys : List (CatNo × OfData)) → of_category n (xs ++ ys) ≡ of_category n xs ++ of_category n ys
+of-both n xs ys = filter_map-append (λ e. if e.0.0 == n then Some e.1 else None) xs ys
+
+-- what is bound makes no category
+bound-categories : (S : Standing) (name : Option (List ℕ)) (a : LineAnswer MorData) → (with_bound S name a).categories ≡ S.categories
+bound-categories S None a = refl
+bound-categories S (Some name) a = refl
+
+pub seats-behind : (session : SessionNo) (S : Standing) (name : Option (List ℕ)) (a : LineAnswer MorData) (seats : List AtSeat) → AreSeats session S seats → AreSeats session (with_bound S name a) seats
+seats-behind session S None a seats A = A
+seats-behind session S (Some name) a seats A = record { numbered = A.numbered; all = A.all }
+
+pub seats-before : (session : SessionNo) (S : Standing) (name : Option (List ℕ)) (a : LineAnswer MorData) (seats : List AtSeat) → AreSeats session (with_bound S name a) seats → AreSeats session S seats
+seats-before session S None a seats A = A
+seats-before session S (Some name) a seats A = record { numbered = A.numbered; all = A.all }
+
+module _ (session : SessionNo) where
+  pub grown : (S : Standing) (seats : List AtSeat) (cs : List (Command CheckedObj MorLit)) (events : List (CatNo × OfData)) (answers : List (LineAnswer MorData)) (S' : Standing) (seats' : List AtSeat)
+      → Chain IsNothing session S seats cs events answers S' seats' → (n : ℕ) → seen_at seats' n ≡ seen_at seats n ++ of_category n events
+  grown S seats [] events answers S' seats' C n =
+      ap (λ ss. seen_at ss n) C.3 ∙ sym (append-nil (seen_at seats n)) ∙ ap (λ es. seen_at seats n ++ of_category n es) (sym C.0)
+  grown S seats (c ∷ cs) events answers S' seats' (first, later, a, rest, between, e, f, runs, are, chain) n =
+      grown (with_bound S (bound_name c) a) between cs later rest S' seats' chain n
+      ∙ ap (λ es. es ++ of_category n later) (woven-alone (seen_at seats n) (of_category n first) (seen_at between n) (runs.grown n))
+      ∙ append_assoc (seen_at seats n) (of_category n first) (of_category n later)
+      ∙ ap (λ es. seen_at seats n ++ es) (sym (of-both n first later))
+      ∙ ap (λ es. seen_at seats n ++ of_category n es) (sym e)
+
+  -- the seats behind a chain are those of the same categories
+  pub seats-stay : (S : Standing) (seats : List AtSeat) (cs : List (Command CheckedObj MorLit)) (events : List (CatNo × OfData)) (answers : List (LineAnswer MorData)) (S' : Standing) (seats' : List AtSeat)
+      → Chain IsNothing session S seats cs events answers S' seats' → AreSeats session S seats → AreSeats session S seats'
+  seats-stay S seats [] events answers S' seats' C A = subst (AreSeats session S) (sym C.3) A
+  seats-stay S seats (c ∷ cs) events answers S' seats' (first, later, a, rest, between, e, f, runs, are, chain) A =
+      seats-before session S (bound_name c) a seats'
+      (seats-stay (with_bound S (bound_name c) a) between cs later rest S' seats' chain (seats-behind session S (bound_name c) a between are))
+
+  -- whole histories behind some commands are whole before them
+  pub whole-before : (S : Standing) (before behind : List AtSeat) (own : ℕ → List OfData) → AreSeats session S before → AreSeats session S behind → ((n : ℕ) → seen_at behind n ≡ seen_at before n ++ own n)
+      → (histories : List (History ObjData MorData)) → AreWhole histories behind → AreWhole histories before
+  whole-before S before behind own A B more histories W n s is =
+      let made = zip-left (IsSeat session) S.categories before n s A.all is in
+      let later = zip-right (IsSeat session) S.categories behind n made.0 B.all made.1 in
+      let whole = W n later.0 later.1 in
+      let same : later.0.offer ≡ s.offer = later.2.offer ∙ sym made.2.offer in
+      let longer : later.0.seen ≡ s.seen ++ own n = sym (ap seen_or_none later.1) ∙ more n ∙ ap (λ o. seen_or_none o ++ own n) is in
+      record {
+        later = own n ++ whole.later;
+        whole = whole.whole ∙ ap (λ es. es ++ whole.later) longer ∙ append_assoc s.seen (own n) whole.later;
+        legal = subst (λ x. Legal (frame (any_offer x) cells_in_object cells_in_morphism) (history_of histories n)) same whole.legal;
+      }
