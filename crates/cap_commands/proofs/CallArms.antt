@@ -29,9 +29,9 @@ use Rattle.cap_seat.specs.Events.{entered}
 use Rattle.cap_seat.specs.Seats.{told_at, state_of, Holds}
 use Rattle.cap_seat.specs.Onward.{GoesOn}
 use Rattle.cap_seat.proofs.TheRules.{rules-run}
-use Rattle.cap_session.specs.Doing.{CallDoes}
-use Rattle.cap_session.proofs.Does.{call-does, call-one, call-full}
-use Rattle.cap_session.proofs.Goes.{call-goes}
+use Rattle.cap_session_lines.specs.Doing.{CallDoes}
+use Rattle.cap_session_lines.proofs.Does.{call-does, call-one, call-full}
+use Rattle.cap_session_lines.proofs.Goes.{call-goes}
 use Rattle.cap_commands.specs.Kinds.{kinds}
 use Rattle.cap_commands.specs.Agreement.{Standing}
 use Rattle.cap_commands.specs.Seats.{AtSeat, OfData}

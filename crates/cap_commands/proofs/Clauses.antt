@@ -21,7 +21,7 @@ use Rattle.cap_report.specs.declared.situation.Made.{Made}
 use Rattle.cap_accounts.specs.Commands as accounts
 use Rattle.cap_desk.specs.Woven.{AreOthers}
 use Rattle.cap_seat.specs.Seats.{told_at, Holds}
-use Rattle.cap_session.specs.Doing.{EventDoes, weight_of}
+use Rattle.cap_session_lines.specs.Doing.{EventDoes, weight_of}
 use Rattle.cap_commands.specs.Agreement.{Standing}
 use Rattle.cap_commands.specs.Seats.{AtSeat, OfData}
 use Rattle.cap_commands.specs.Doing.{DoesAt, ObjectDoes, MorphismDoes, CallGives, in_category}

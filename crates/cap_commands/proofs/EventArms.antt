@@ -34,9 +34,9 @@ use Rattle.cap_seat.specs.declared.tries.Tried.TheVariants.{Replied, Full}
 use Rattle.cap_seat.specs.Events.{try_of, entered}
 use Rattle.cap_seat.specs.Seats.{told_among, told_at, known_by, told_by, Tries}
 use Rattle.cap_seat.proofs.Among.{among-more}
-use Rattle.cap_session.specs.Doing.{EventDoes, GoesBy, weight_of}
-use Rattle.cap_session.proofs.Does.{event-one}
-use Rattle.cap_session.proofs.Goes.{event-goes, event-full}
+use Rattle.cap_session_lines.specs.Doing.{EventDoes, GoesBy, weight_of}
+use Rattle.cap_session_lines.proofs.Does.{event-one}
+use Rattle.cap_session_lines.proofs.Goes.{event-goes, event-full}
 use Rattle.cap_commands.specs.Kinds.{kinds, ObjectIs}
 use Rattle.cap_commands.specs.Agreement.{Standing}
 use Rattle.cap_commands.specs.Seats.{AtSeat, OfData}

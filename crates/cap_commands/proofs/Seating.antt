@@ -35,7 +35,7 @@ use Rattle.cap_desk.specs.Woven.{IsWoven, AreOthers}
 use Rattle.cap_desk.proofs.Weaving.{woven-start}
 use Rattle.cap_seat.specs.Events.{entered, HasFullFront}
 use Rattle.cap_seat.specs.Seats.{Holds}
-use Rattle.cap_session.proofs.Recording.{whole-front}
+use Rattle.cap_session_lines.proofs.Recording.{whole-front}
 use Rattle.cap_commands.specs.Kinds.{kinds}
 use Rattle.cap_commands.specs.Agreement.{Standing}
 use Rattle.cap_commands.specs.Seats.{AtSeat, OfData, with_number, IsSeat, AreSeats, seen_or_none, seen_at, AreWhole, FullIsWhole, CommandRuns}

@@ -8,7 +8,7 @@ use Rattle.cap_ops.specs.Offered.{offered_by_all, offered_besides, weight_in}
 use Rattle.cap_ops.proofs.Places.{none≢some, some_inner}
 use Rattle.cap_vec_offer.specs.Members.{offer_weights}
 use Rattle.cap_offer.specs.Labels.{Label, vec, any_offer}
-use Rattle.cap_session.specs.Doing.{HasWeights}
+use Rattle.cap_session_lines.specs.Doing.{HasWeights}
 
 abbrev IsRanged : ℕ → Type 0
 IsRanged n = (1 ≤ n) × (n ≤ MOST_WEIGHT)

@@ -38,7 +38,7 @@ use Rattle.cap_accounts.specs.Commands.{AreArguments, DoesIn, category_of, end_l
 use Rattle.cap_seat.specs.declared.tries.Try.{Try}
 use Rattle.cap_seat.specs.Events.{entered, HasFullFront}
 use Rattle.cap_seat.specs.Seats.{told_at, state_of}
-use Rattle.cap_session.specs.Doing.{EventDoes, CallDoes, GoesBy}
+use Rattle.cap_session_lines.specs.Doing.{EventDoes, CallDoes, GoesBy}
 use Rattle.cap_commands.specs.Kinds.{kinds, ObjectIs, MorphismIs}
 use Rattle.cap_commands.specs.Agreement.{Standing, Telling, Agrees}
 use Rattle.cap_commands.specs.Seats.{AtSeat, OfData}

@@ -22,7 +22,7 @@ use cap_offer::AnyCat;
 use cap_ops::{Arrow, Objects, Offer};
 use cap_report::{LineAnswer, Situation};
 use cap_seat::Seat;
-use cap_session::{declare_line, end_line};
+use cap_session_lines::{declare_line, end_line};
 use cap_terms::RuleSet;
 use std::alloc::Global;
 

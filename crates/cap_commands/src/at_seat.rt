@@ -18,7 +18,7 @@ use cap_names::{Handle, MorLit, NoMemory};
 use cap_offer::AnyCat;
 use cap_report::{LineAnswer, Made, Situation};
 use cap_seat::Seat;
-use cap_session::{finalise_line, plan_line, register_line};
+use cap_session_lines::{finalise_line, plan_line, register_line};
 use cap_terms::RuleSet;
 use std::alloc::Global;
 

@@ -1,8 +1,9 @@
 // An offer with the state of its category.
-ghost use Rattle.std.specs.Prelude.{◌≡◌, [], IfOk, map};
+ghost use Rattle.std.specs.Prelude.{◌≡◌, [], IfOk, map, option_map};
 ghost use Rattle.std.specs.List.{range_with_len};
 ghost use Rattle.cap_rules.specs.Table.{rule_table};
 ghost use Rattle.cap_legal.specs.Legal.{TrueEvent, Legal};
+ghost use Rattle.cap_history.specs.Reading.{finality};
 ghost use Rattle.cap_history.specs.Replies.{entry};
 ghost use Rattle.cap_store.specs.State.{Steps, reply_of, GivesBack};
 ghost use Rattle.cap_desk.specs.Books.{Book, frame};
@@ -10,7 +11,7 @@ ghost use Rattle.cap_desk.specs.Desks.{log_of};
 
 use cap_history::{Entry, Event, Reply};
 use cap_names::{OpId, SessionNo};
-use cap_ops::{Offer, Regs};
+use cap_ops::{Offer, Plan, Regs};
 use cap_rules::costs;
 use cap_store::{CatState, EnterRefusal};
 use std::alloc::Global;
@@ -63,6 +64,21 @@ impl<C: Offer> Ledger<C> {
         ensures legal { Legal (frame (C.offered self.now.offer) C.O.cells_of C.M.cells_of) self.now.entries }
     {
         self.state.history()
+    }
+
+    /// The entries, in order, for good.
+    pub fn into_history(self) -> Vec<Entry<C::O, C::M>>
+        ensures is { result.items ≡ self.entries }
+        ensures legal { Legal (frame (C.offered self.offer) C.O.cells_of C.M.cells_of) self.entries }
+    {
+        self.state.into_history()
+    }
+
+    /// The plan, once registering has ended.
+    pub fn plan(&self) -> Option<Plan>
+        ensures { result ≡ option_map (λ f. f.plan) (finality self.now.entries) }
+    {
+        self.state.plan()
     }
 
     /// Adds an event with its reply, and answers the reply with a copy of the entry. A refusal changes nothing, and where

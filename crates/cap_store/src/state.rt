@@ -71,6 +71,13 @@ impl<O: Datum, M: Datum> CatState<O, M> {
         self.parts.entries.as_slice()
     }
 
+    /// What has happened, in order, for good.
+    pub fn into_history(self) -> Vec<Entry<O, M>>
+        ensures { result.items ≡ self.entries }
+    {
+        self.parts.entries
+    }
+
     /// The plan, once registering has ended.
     pub fn plan(&self) -> Option<Plan>
         ensures { MatchOption result (IsOpen self.now.entries) (λ p. (at : ℕ) × IsFinal self.now.entries at p) }

@@ -25,7 +25,7 @@ use Rattle.cap_seat.specs.declared.tries.Tried.{Tried}
 use Rattle.cap_seat.specs.declared.tries.Tried.TheVariants.{Replied, Full}
 use Rattle.cap_seat.specs.Events.{try_of, entered, IsCallTry, HasFullFront}
 use Rattle.cap_seat.specs.Seats.{Sitting, Tries}
-use Rattle.cap_session.specs.Doing.{tried_line, EventDoes, CallDoes, GoesBy}
+use Rattle.cap_session_lines.specs.Doing.{tried_line, EventDoes, CallDoes, GoesBy}
 
 module _ {O M : Type 0} where
   own-entries : (session : SessionNo) (ts : List (Try O M)) → All (IsCallTry session) ts → All (λ (e : Entry O M). e.session ≡ session) (filter_map entered ts)

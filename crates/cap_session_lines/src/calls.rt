@@ -7,7 +7,7 @@ ghost use Rattle.cap_rules.specs.Table.{rule_table};
 ghost use Rattle.cap_board.specs.declared.refusals.CallRefusal.TheVariants.{NoMemory as no_memory};
 ghost use Rattle.cap_accounts.specs.Commands.{end_line};
 ghost use Rattle.cap_seat.specs.Seats.{told_at, Holds};
-ghost use Rattle.cap_session.specs.Doing.{CallDoes};
+ghost use Rattle.cap_session_lines.specs.Doing.{CallDoes};
 
 use cap_desk::Desk;
 use cap_eval::{CallRefusal, call};

@@ -30,9 +30,9 @@ use Rattle.cap_seat.specs.declared.tries.Tried.TheVariants.{Replied, Full}
 use Rattle.cap_seat.specs.Events.{try_event, try_of, entered, HasFullFront}
 use Rattle.cap_seat.specs.Seats.{Sitting, told_at, state_of, Holds}
 use Rattle.cap_seat.specs.Onward.{GoesOn}
-use Rattle.cap_session.specs.Doing.{tried_line, EventDoes, CallDoes}
-use Rattle.cap_session.proofs.Refused.{Ends, trace-ends}
-use Rattle.cap_session.proofs.Recording.{ends-last, recorded, refused-front}
+use Rattle.cap_session_lines.specs.Doing.{tried_line, EventDoes, CallDoes}
+use Rattle.cap_session_lines.proofs.Refused.{Ends, trace-ends}
+use Rattle.cap_session_lines.proofs.Recording.{ends-last, recorded, refused-front}
 
 -- a line that is answered is that of the end
 pub ok-line : {M : Type 0} (end : CallEnd M) (r : Result (LineAnswer M) Wanting) → MatchResult r (λ answer. end_line end ≡ Some answer) (λ e. end ≡ Err NoMemory) → IfOk r (λ answer. end_line end ≡ Some answer)

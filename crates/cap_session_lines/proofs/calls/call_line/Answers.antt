@@ -2,9 +2,9 @@ use Rattle.std.proofs.Common.{sym, subst}
 use Rattle.std.specs.Prelude.{IfOk}
 use Rattle.cap_run.specs.Plans.{AreRules}
 use Rattle.cap_seat.proofs.TheRules.{rules-run}
-use Rattle.cap_session.specs.Doing.{CallDoes}
-use Rattle.cap_session.proofs.Does.{call-clause, ok-line}
-use Rattle.cap_session.proofs.calls.call_line.Goals as goal
+use Rattle.cap_session_lines.specs.Doing.{CallDoes}
+use Rattle.cap_session_lines.proofs.Does.{call-clause, ok-line}
+use Rattle.cap_session_lines.proofs.calls.call_line.Goals as goal
 
 pub call-end-requires-clause-ready : goal.call-end-requires-clause-ready
 call-end-requires-clause-ready g c = record { offers = sym c.requires.offer; by_rules = sym c.requires.rules; are = subst AreRules (sym c.requires.rules) rules-run }

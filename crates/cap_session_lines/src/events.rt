@@ -2,7 +2,7 @@
 ghost use Rattle.std.specs.Prelude.{◌≡◌, ◌≤◌, IfOk, OnErr, IfSome};
 ghost use Rattle.cap_ops.specs.Ends.{IsOperation};
 ghost use Rattle.cap_seat.specs.Seats.{Holds, Waits};
-ghost use Rattle.cap_session.specs.Doing.{EventDoes, weight_of, HasWeights};
+ghost use Rattle.cap_session_lines.specs.Doing.{EventDoes, weight_of, HasWeights};
 
 use cap_desk::Desk;
 use cap_history::{Event, Reply};

@@ -26,7 +26,7 @@ use Rattle.cap_accounts.specs.Commands.{IsRefusedEvent, Recorded}
 use Rattle.cap_seat.specs.declared.tries.Try.{Try}
 use Rattle.cap_seat.specs.declared.tries.Try.TheVariants.{Entered, Full}
 use Rattle.cap_seat.specs.Events.{board_event, full_event, try_event, entered, IsCallTry, HasFullFront, IsRefusedByFull}
-use Rattle.cap_session.proofs.Refused.{IsFullEvent, IsClean, AreClean, FullLast, Ends}
+use Rattle.cap_session_lines.proofs.Refused.{IsFullEvent, IsClean, AreClean, FullLast, Ends}
 
 module _ {O M : Type 0} where
   -- the events that entries are read as
