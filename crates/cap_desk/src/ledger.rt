@@ -66,14 +66,6 @@ impl<C: Offer> Ledger<C> {
         self.state.history()
     }
 
-    /// The entries, in order, for good.
-    pub fn into_history(self) -> Vec<Entry<C::O, C::M>>
-        ensures is { result.items ≡ self.entries }
-        ensures legal { Legal (frame (C.offered self.offer) C.O.cells_of C.M.cells_of) self.entries }
-    {
-        self.state.into_history()
-    }
-
     /// The plan, once registering has ended.
     pub fn plan(&self) -> Option<Plan>
         ensures { result ≡ option_map (λ f. f.plan) (finality self.now.entries) }
@@ -97,5 +89,15 @@ impl<C: Offer> Ledger<C> {
         ensures back { GivesBack event result }
     {
         self.state.enter(alloc, session, event)
+    }
+}
+
+impl<C: Offer + Drop> Ledger<C> {
+    /// The entries, in order, for good.
+    pub fn into_history(self) -> Vec<Entry<C::O, C::M>>
+        ensures is { result.items ≡ self.entries }
+        ensures legal { Legal (frame (C.offered self.offer) C.O.cells_of C.M.cells_of) self.entries }
+    {
+        self.state.into_history()
     }
 }

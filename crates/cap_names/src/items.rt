@@ -57,18 +57,20 @@ impl<T> Items<T> {
         items
     }
 
-    /// Keeps so many of the first elements; the others go.
-    pub fn truncate(&mut self, len: usize)
-        ensures { self.new ≡ take len self.old }
-    {
-        self.items.truncate(len);
-    }
-
     /// Puts an element behind the others. Without memory the list stays, and the element comes back.
     pub fn push(&mut self, item: T) -> Result<(), AllocFailed<T>>
         ensures { self.new ≡ (if is_ok result then self.old ++ item ∷ [] else self.old) }
     {
         self.items.push(item)
+    }
+}
+
+impl<T: Drop> Items<T> {
+    /// Keeps so many of the first elements; the others go.
+    pub fn truncate(&mut self, len: usize)
+        ensures { self.new ≡ take len self.old }
+    {
+        self.items.truncate(len);
     }
 }
 
