@@ -59,11 +59,13 @@ IsToldAnswer D told answer = Unit {0}
 abbrev pub Telling : Type 0
 Telling = ℕ → Handle → Option ObjData
 
--- the name of a value of the script, and what it is bound to
+-- the name of a value of the script, and what it is bound to in its category, which is made
 pub record Stands (S : Standing) (telling : Telling) (v : Value) (b : Bound MorData) : Type 0 where
   pub name : v.name ≡ b.name
   pub sort : HasSort v.sort b.answer
-  pub told : (made : Made Label) → category_of S v.cat ≡ Some made → IsToldAnswer (any_offer made.category) (telling made.number.0) b.answer
+  pub made : Made Label
+  pub is : category_of S v.cat ≡ Some made
+  pub told : IsToldAnswer (any_offer made.category) (telling made.number.0) b.answer
 
 -- the category of this name is made, and is the one over this
 pub record IsMadeOver (S : Standing) (cat : List ℕ) (over : Over) : Type 0 where

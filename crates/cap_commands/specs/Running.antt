@@ -9,13 +9,16 @@ use Rattle.cap_grammar.specs.declared.tree.Command.TheVariants.{Src, Tgt}
 use Rattle.cap_checked.specs.declared.tree.CheckedObj.{CheckedObj}
 use Rattle.cap_fitting.specs.Commands.{Scope, CommandFits}
 use Rattle.cap_fitting.specs.Literals.{LiteralFits}
+use Rattle.cap_fitting.specs.Values.{bound_by}
 use Rattle.cap_data.specs.declared.data.MorData.{MorData}
 use Rattle.cap_data.specs.Counts.{cells_in_object, cells_in_morphism}
 use Rattle.cap_offer.specs.Labels.{Label, any_offer}
 use Rattle.cap_report.specs.declared.lines.LineAnswer.{LineAnswer}
 use Rattle.cap_report.specs.declared.lines.LineAnswer.TheVariants as line
 use Rattle.cap_report.specs.declared.situation.Made.{Made}
+use Rattle.cap_report.specs.Named.{bound_name}
 use Rattle.cap_accounts.specs.Commands.{arrow_at}
+use Rattle.cap_accounts.specs.Accounts.{with_bound}
 use Rattle.cap_seat.specs.Events.{entered}
 use Rattle.cap_seat.specs.Seats.{Holds}
 use Rattle.cap_commands.specs.Agreement.{Standing, Agrees}
@@ -45,12 +48,22 @@ pub record IsPrepared (S : Standing) (seats : List AtSeat) (c : Command CheckedO
   pub fits : CommandFits scope c
   pub literal : LiteralFits scope.over c
 
--- what running a command ensures: its own events stand behind the events, and it runs as the command does, for the session whose seats they are
+-- the scope behind a command, which binds a name at most
+abbrev pub behind_command : Scope → Command CheckedObj MorLit → Scope
+behind_command scope c = record scope { values = scope.values ++ bound_by scope.values c }
+
+-- where the names agreed with what stood before a command that fits, they agree with what stands behind it
+abbrev pub AgreesBehind : Standing → List AtSeat → Command CheckedObj MorLit → LineAnswer MorData → List AtSeat → Type 0
+AgreesBehind S seats c answer seats' = (scope : Scope) → Agrees scope S (telling seats) → CommandFits scope c → LiteralFits scope.over c
+    → Agrees (behind_command scope c) (with_bound S (bound_name c) answer) (telling seats')
+
+-- what running a command ensures: its own events stand behind the events, it runs as the command does, for the session whose seats they are, and the names agree with what stands behind it
 pub record Runs (others : List OfData → Type 0) (S : Standing) (seats : List AtSeat) (c : Command CheckedObj MorLit) (before : List (CatNo × OfData)) (answer : LineAnswer MorData) (seats' : List AtSeat) (after : List (CatNo × OfData)) : Type 0 where
   pub own : List (CatNo × OfData)
   pub added : after ≡ before ++ own
   pub are : (session : SessionNo) → AreSeats session S seats → AreSeats session S seats'
   pub runs : (session : SessionNo) → AreSeats session S seats → CommandRuns others session S seats c own answer seats'
+  pub agrees : (session : SessionNo) → AreSeats session S seats → AgreesBehind S seats c answer seats'
 
 -- the reference of a command that asks for an end names a morphism
 abbrev pub NamesArrow : Standing → Command CheckedObj MorLit → Type 0
