@@ -1,0 +1,4 @@
+pub mod Courses
+pub mod Preludes
+pub mod Sessions
+pub mod Reports

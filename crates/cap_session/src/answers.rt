@@ -1,0 +1,58 @@
+// Answers for the report and for the names that stand for them.
+ghost use Rattle.std.specs.Prelude.{◌≡◌, IfOk};
+ghost use Rattle.cap_report.specs.Named.{bound_name};
+
+use cap_checked::CheckedObj;
+use cap_grammar::Command;
+use cap_history::HeldPlan;
+use cap_keys::copy_arrow;
+use cap_names::{Items, MorLit, Name, NoMemory};
+use cap_ops::Datum;
+use cap_report::LineAnswer;
+use std::alloc::Global;
+
+/// An equal answer.
+pub(crate) fn copy_answer<M: Datum>(
+    alloc: Global,
+    answer: &LineAnswer<M>,
+) -> Result<LineAnswer<M>, NoMemory>
+    ensures { IfOk result (λ copy. copy ≡ answer.now) }
+{
+    match answer {
+        LineAnswer::Category => Ok(LineAnswer::Category),
+        LineAnswer::Registered { op, weight } => Ok(LineAnswer::Registered {
+            op: *op,
+            weight: *weight,
+        }),
+        LineAnswer::Final => Ok(LineAnswer::Final),
+        LineAnswer::Plan(plan) => Ok(LineAnswer::Plan(HeldPlan::new(alloc, plan.plan())?)),
+        LineAnswer::Object(handle) => Ok(LineAnswer::Object(*handle)),
+        LineAnswer::Morphism(arrow) => Ok(LineAnswer::Morphism(copy_arrow(alloc, arrow)?)),
+        LineAnswer::Tuple(arrows) => {
+            let mut copies = Vec::new(alloc);
+            for arrow in arrows.as_slice() {
+                copies.push(copy_arrow(alloc, arrow)?)?;
+            }
+            Ok(LineAnswer::Tuple(Items::new(copies)))
+        }
+        LineAnswer::Truth(value) => Ok(LineAnswer::Truth(*value)),
+        LineAnswer::Nothing => Ok(LineAnswer::Nothing),
+        LineAnswer::Refused(why) => Ok(LineAnswer::Refused(*why)),
+    }
+}
+
+/// The name that a command binds.
+pub(crate) fn bound_name(command: &Command<CheckedObj, MorLit>) -> Option<Name>
+    ensures { result ≡ bound_name command.now }
+{
+    match command {
+        Command::Register { .. } => None,
+        Command::Finalise { .. } => None,
+        Command::Plan { .. } => None,
+        Command::Object { name, .. } => Some(*name),
+        Command::Src { name, .. } => Some(*name),
+        Command::Tgt { name, .. } => Some(*name),
+        Command::Let { name, .. } => Some(*name),
+        Command::Call { name, .. } => Some(*name),
+    }
+}

@@ -1,0 +1,16 @@
+//! Whole runs of scripts: the prelude, and then each session, with a report that accounts for the script.
+#![tactic(auto)]
+
+mod answers;
+mod course;
+mod gated;
+mod plain;
+mod prelude;
+mod reports;
+mod sessions;
+#[cfg(test)]
+mod tests;
+
+pub use cap_report::{Done, History, LineAnswer, LineRefusal, Report, Trace};
+pub use gated::Gated;
+pub use plain::run_plain;
