@@ -4,5 +4,5 @@ pub mod Staying
 pub mod Sitting
 pub mod Parts
 pub mod Making
-pub mod Prelude
+pub mod PreludeParts
 pub mod Reporting

@@ -1,7 +1,7 @@
 -- What a whole run on one thread reports.
 use Rattle.std.specs.Prelude.{◌≡◌, ℕ, List, map, option_map}
 use Rattle.std.specs.List.{All, AllZip, filter_map}
-use Rattle.core.specs.List.Sorted.{IsNonDecreasing}
+use Rattle.std.specs.List.Sorted.{IsNonDecreasing}
 use Rattle.cap_checked.specs.declared.tree.Checked.{Checked}
 use Rattle.cap_rules.specs.Table.{rule_table}
 use Rattle.cap_data.specs.declared.data.ObjData.{ObjData}

@@ -1,8 +1,8 @@
 // How far a run has come.
-ghost use Rattle.std.specs.Prelude.{◌≡◌, OnOk};
+ghost use Rattle.std.specs.Prelude.{◌≡◌, ◌<◌, ◌^◌, length, OnOk};
 ghost use Rattle.cap_rules.specs.Table.{rule_table};
 ghost use Rattle.cap_commands.specs.Running.{IsPrepared};
-ghost use Rattle.cap_session.specs.Courses.{RunsOne, RunsAll, Comes};
+ghost use Rattle.cap_session.specs.Courses.{Notes, RunsOne, RunsAll, Comes};
 
 use crate::answers::{bound_name, copy_answer};
 use cap_accounts::bind;

@@ -37,7 +37,7 @@ impl<'g, D, G: Gate> Gated<'g, D, G> {
 
     /// The desk.
     pub fn into_desk(self) -> D
-        ensures { result ≡ self.desk }
+        ensures { result ≡ self.entry.desk }
     {
         self.desk
     }

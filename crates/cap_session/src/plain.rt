@@ -1,10 +1,11 @@
 // Whole scripts on one thread.
 ghost use Rattle.std.specs.Prelude.{◌≡◌, [], IfOk};
 ghost use Rattle.cap_check.specs.Unbuilt.{unbuilt};
+ghost use Rattle.cap_session.specs.Preludes.{IsAtFirst};
 ghost use Rattle.cap_session.specs.Reports.{IsPlainReport};
 
 use crate::course::Course;
-use crate::prelude::run_parts;
+use crate::prelude::{OwnSeat, run_parts};
 use crate::reports::report;
 use crate::sessions::{hand_over, run_sessions};
 use cap_check::Checked;
@@ -19,7 +20,7 @@ use cap_traces::law_runs_account;
 use std::alloc::Global;
 
 /// A run in which nothing has happened.
-fn at_first<S>(alloc: Global) -> Course<S>
+fn at_first<'g, G: Gate>(alloc: Global) -> Course<OwnSeat<'g, G>>
     ensures { IsAtFirst result }
 {
     Course {

@@ -16,7 +16,7 @@ pub(crate) fn report<'g, G: Gate>(
     traces: Vec<Trace<ObjData, MorData>>,
 ) -> Result<Report<ObjData, MorData>, NoMemory>
     requires { length seats.items ≤ 256 }
-    ensures { IfOk result (λ r. IsReport seats.items traces.items r) }
+    ensures { IfOk result (λ r. IsReport seats.entry.items traces.items r) }
 {
     let mut histories = Vec::new(alloc);
     let mut plans = Vec::new(alloc);
