@@ -7,9 +7,19 @@ use cap_grammar::Command;
 use cap_history::HeldPlan;
 use cap_keys::copy_arrow;
 use cap_names::{Items, MorLit, Name, NoMemory};
-use cap_ops::Datum;
+use cap_ops::{Arrow, Datum};
 use cap_report::LineAnswer;
 use std::alloc::Global;
+
+fn copy_arrows<M: Datum>(alloc: Global, arrows: &[Arrow<M>]) -> Result<Vec<Arrow<M>>, NoMemory>
+    ensures { IfOk result (λ copy. copy.items ≡ arrows.now) }
+{
+    let mut copy = Vec::new(alloc);
+    for f in arrows {
+        copy.push(copy_arrow(alloc, f)?)?;
+    }
+    Ok(copy)
+}
 
 /// An equal answer.
 pub(crate) fn copy_answer<M: Datum>(
@@ -29,10 +39,7 @@ pub(crate) fn copy_answer<M: Datum>(
         LineAnswer::Object(handle) => Ok(LineAnswer::Object(*handle)),
         LineAnswer::Morphism(arrow) => Ok(LineAnswer::Morphism(copy_arrow(alloc, arrow)?)),
         LineAnswer::Tuple(arrows) => {
-            let mut copies = Vec::new(alloc);
-            for arrow in arrows.as_slice() {
-                copies.push(copy_arrow(alloc, arrow)?)?;
-            }
+            let copies = copy_arrows(alloc, arrows.as_slice())?;
             Ok(LineAnswer::Tuple(Items::new(copies)))
         }
         LineAnswer::Truth(value) => Ok(LineAnswer::Truth(*value)),

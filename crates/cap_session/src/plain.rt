@@ -13,10 +13,10 @@ use cap_data::{MorData, ObjData};
 use cap_fitting::{law_forms_fit, law_literals_fit};
 use cap_io::Gate;
 use cap_names::{Items, NoMemory, SessionNo};
+use cap_one_report::law_runs_are_in_turn;
 use cap_report::{Report, Situation};
 use cap_right_laws::law_accounts_are_right;
 use cap_rules::rules;
-use cap_traces::law_runs_account;
 use std::alloc::Global;
 
 /// A run in which nothing has happened.
