@@ -14,11 +14,8 @@ use Rattle.cap_checked.specs.declared.tree.CheckedObj.{CheckedObj}
 use Rattle.cap_rules.specs.Table.{rule_table}
 use Rattle.cap_data.specs.declared.data.ObjData.{ObjData}
 use Rattle.cap_data.specs.declared.data.MorData.{MorData}
-use Rattle.cap_desk.specs.Books.{frame}
 use Rattle.cap_desk.specs.Woven.{IsNothing}
-use Rattle.cap_legal.specs.Legal.{Legal}
-use Rattle.cap_data.specs.Counts.{cells_in_object, cells_in_morphism}
-use Rattle.cap_offer.specs.Labels.{Label, any_offer}
+use Rattle.cap_offer.specs.Labels.{Label}
 use Rattle.cap_report.specs.declared.lines.LineAnswer.{LineAnswer}
 use Rattle.cap_report.specs.declared.lines.LineAnswer.TheVariants as line
 use Rattle.cap_report.specs.declared.lines.LineRefusal.TheVariants as refusal
@@ -27,17 +24,25 @@ use Rattle.cap_report.specs.declared.situation.Made.{Made}
 use Rattle.cap_report.specs.Histories.{entries_or_none, history_of}
 use Rattle.cap_report.specs.Named.{bound_name}
 use Rattle.cap_accounts.specs.Commands.{category_of}
-use Rattle.cap_accounts.specs.Accounts.{of_category, with_bound, FullEnds, CommandsDo}
+use Rattle.cap_accounts.specs.Accounts.{of_category, with_bound, IsFullOf, FullEnds, CommandsDo}
 use Rattle.cap_commands.specs.Agreement.{Standing}
 use Rattle.cap_commands.specs.Kinds.{kinds}
 use Rattle.cap_commands.specs.Seats.{AtSeat, OfData, IsSeat, AreSeats, seen_or_none, seen_at, AreWhole, FullIsWhole, CommandRuns}
 use Rattle.cap_traces.specs.Chains.{Chain}
-use Rattle.cap_traces.proofs.Pairs.{zip-left, zip-right}
+use Rattle.cap_traces.proofs.Pairs.{zip-right}
+use Rattle.cap_traces.proofs.Longer.{whole-seen}
 use Rattle.cap_traces.proofs.Growing.{seats-behind, seats-before, grown, seats-stay, whole-before}
 
 -- what the seats have seen, as whole histories
 abbrev history_at : AtSeat → History ObjData MorData
 history_at s = record { cat = record { 0 = 0 }; entries = s.seen }
+
+-- where two lists together are none, each is none
+pub left-nil : (xs ys : List OfData) → xs ++ ys ≡ [] → xs ≡ []
+left-nil xs ys e = nil_from_length xs (omega (arith, ap length e, length-append xs ys))
+
+pub right-nil : (xs ys : List OfData) → xs ++ ys ≡ [] → ys ≡ []
+right-nil xs ys e = nil_from_length ys (omega (arith, ap length e, length-append xs ys))
 
 seen-alone-or : (o : Option AtSeat) → entries_or_none (option_map history_at o) ≡ seen_or_none o
 seen-alone-or None = refl
@@ -48,10 +53,7 @@ seen-alone seats n = ap entries_or_none (slice_get-map history_at seats n) ∙ s
 
 module _ (session : SessionNo) (S : Standing) where
   whole-alone : (seats : List AtSeat) → AreSeats session S seats → AreWhole (map history_at seats) seats
-  whole-alone seats A n s is =
-      let made = zip-left (IsSeat session) S.categories seats n s A.all is in
-      let seen : history_of (map history_at seats) n ≡ s.seen = seen-alone seats n ∙ ap seen_or_none is in
-      record { later = []; whole = seen ∙ sym (append-nil s.seen); legal = subst (λ es. Legal (frame (any_offer s.offer) cells_in_object cells_in_morphism) es) (sym seen) made.2.holds.legal }
+  whole-alone seats A = whole-seen session S seats A (map history_at seats) (seen-alone seats)
 
   -- where a category's name is found, it stands at its number
   found-there : (name : List ℕ) (m : Made Label) (seats : List AtSeat) → AreSeats session S seats → category_of S name ≡ Some m → slice_get S.categories m.number.0 ≡ Some m
@@ -60,26 +62,42 @@ module _ (session : SessionNo) (S : Standing) where
       let at : slice_get S.categories place ≡ Some m = sym (find_at (λ m. same m.name name) S.categories) ∙ e in
       subst (λ i. slice_get S.categories i ≡ Some m) (sym (A.numbered place m at)) at
 
-  nothing-later : (whole seen own later : List OfData) → whole ≡ (seen ++ own) ++ later → length whole ≡ length seen → own ≡ []
-  nothing-later whole seen own later e l =
-      nil_from_length own (omega (arith, sym l ∙ ap length e, length-append (seen ++ own) later, length-append seen own))
+  -- a full history is as long as what was seen of it
+  full-seen : (c : Command CheckedObj MorLit) (n k : ℕ) (between : List AtSeat) → AreSeats session S between
+      → ((histories : List (History ObjData MorData)) → AreWhole histories between → FullIsWhole histories S c (line.Refused (refusal.Full n k))) → (histories : List (History ObjData MorData)) → AreWhole histories between
+      → (category : CatNo) × IsFullOf kinds rule_table histories S c category n k × (length (history_of histories category.0) ≡ length (seen_at between category.0))
+  full-seen c n k between A full histories V =
+      let now = full histories V in
+      let then = full (map history_at between) (whole-alone between A) in
+      let same : then.0 ≡ now.0 = let name = then.1.named in cc in
+      (now.0, now.1, sym now.1.entries ∙ then.1.entries ∙ ap length (seen-alone between then.0.0) ∙ ap (λ c. length (seen_at between c.0)) same)
+
+  nothing-later : (whole seen later : List OfData) → whole ≡ seen ++ later → length whole ≡ length seen → later ≡ []
+  nothing-later whole seen later e l = nil_from_length later (omega (arith, sym l ∙ ap length e, length-append seen later))
+
+  -- nothing comes behind it
+  pub full-nothing : (c : Command CheckedObj MorLit) (n k : ℕ) (between : List AtSeat) → AreSeats session S between
+      → ((histories : List (History ObjData MorData)) → AreWhole histories between → FullIsWhole histories S c (line.Refused (refusal.Full n k))) → (histories : List (History ObjData MorData)) → AreWhole histories between
+      → (later : ℕ → List OfData) → ((m : ℕ) → history_of histories m ≡ seen_at between m ++ later m) → (category : CatNo) × IsFullOf kinds rule_table histories S c category n k × (later category.0 ≡ [])
+  full-nothing c n k between A full histories V later goes =
+      let now = full-seen c n k between A full histories V in
+      (now.0, now.1, nothing-later (history_of histories now.0.0) (seen_at between now.0.0) (later now.0.0) (goes now.0.0) now.2)
 
   -- a full history has no later entry
   full-ends : (c : Command CheckedObj MorLit) (a : LineAnswer MorData) (between seats' : List AtSeat) (later : List (CatNo × OfData)) → AreSeats session S between → AreSeats session S seats'
       → ((n : ℕ) → seen_at seats' n ≡ seen_at between n ++ of_category n later) → ((histories : List (History ObjData MorData)) → AreWhole histories between → FullIsWhole histories S c a)
       → (histories : List (History ObjData MorData)) → AreWhole histories seats' → AreWhole histories between → FullEnds kinds rule_table histories S c a later
   full-ends c (line.Refused (refusal.Full n k)) between seats' later A B more full histories W V =
-      let now = full histories V in
-      let then = full (map history_at between) (whole-alone between A) in
-      let same : then.0 ≡ now.0 = let name = then.1.named in cc in
+      let now = full-seen c n k between A full histories V in
       let seat = zip-right (IsSeat session) S.categories seats' now.1.made.number.0 now.1.made B.all (found-there now.1.name now.1.made seats' B now.1.is) in
       let number : now.1.made.number.0 ≡ now.0.0 = ap (λ c. c.0) now.1.number in
       let there : slice_get seats' now.0.0 ≡ Some seat.0 = subst (λ i. slice_get seats' i ≡ Some seat.0) number seat.1 in
       let whole = W now.0.0 seat.0 there in
-      let long : length (history_of histories now.0.0) ≡ length (seen_at between now.0.0) =
-      sym now.1.entries ∙ then.1.entries ∙ ap length (seen-alone between then.0.0) ∙ ap (λ c. length (seen_at between c.0)) same in
       let seen : seat.0.seen ≡ seen_at between now.0.0 ++ of_category now.0.0 later = sym (ap seen_or_none there) ∙ more now.0.0 in
-      (now.0, now.1, nothing-later (history_of histories now.0.0) (seen_at between now.0.0) (of_category now.0.0 later) whole.later (whole.whole ∙ ap (λ es. es ++ whole.later) seen) long)
+      let own = of_category now.0.0 later in
+      let none : own ++ whole.later ≡ [] = nothing-later (history_of histories now.0.0) (seen_at between now.0.0) (own ++ whole.later)
+      (whole.whole ∙ ap (λ es. es ++ whole.later) seen ∙ append_assoc (seen_at between now.0.0) own whole.later) now.2 in
+      (now.0, now.1, left-nil own whole.later none)
   full-ends c _ between seats' later A B more full histories W V = tt
 
 module _ (session : SessionNo) where

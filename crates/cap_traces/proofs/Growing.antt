@@ -9,21 +9,16 @@ use Rattle.cap_grammar.specs.declared.tree.Command.{Command}
 use Rattle.cap_checked.specs.declared.tree.CheckedObj.{CheckedObj}
 use Rattle.cap_data.specs.declared.data.ObjData.{ObjData}
 use Rattle.cap_data.specs.declared.data.MorData.{MorData}
-use Rattle.cap_desk.specs.Books.{frame}
 use Rattle.cap_desk.specs.Woven.{IsNothing}
 use Rattle.cap_desk.proofs.Weaving.{woven-alone}
-use Rattle.cap_legal.specs.Legal.{Legal}
-use Rattle.cap_offer.specs.Labels.{any_offer}
-use Rattle.cap_data.specs.Counts.{cells_in_object, cells_in_morphism}
 use Rattle.cap_report.specs.declared.lines.LineAnswer.{LineAnswer}
 use Rattle.cap_report.specs.declared.report.History.{History}
-use Rattle.cap_report.specs.Histories.{history_of}
 use Rattle.cap_report.specs.Named.{bound_name}
 use Rattle.cap_accounts.specs.Accounts.{of_category, with_bound}
 use Rattle.cap_commands.specs.Agreement.{Standing}
-use Rattle.cap_commands.specs.Seats.{AtSeat, OfData, IsSeat, AreSeats, seen_or_none, seen_at, AreWhole}
+use Rattle.cap_commands.specs.Seats.{AtSeat, OfData, AreSeats, seen_at, AreWhole}
 use Rattle.cap_traces.specs.Chains.{Chain}
-use Rattle.cap_traces.proofs.Pairs.{zip-left, zip-right}
+use Rattle.cap_traces.proofs.Longer.{longer-seats, whole-longer}
 
 -- the events of a category in two lists
 pub of-both : (n : ℕ) (xs ys : List (CatNo × OfData)) → of_category n (xs ++ ys) ≡ of_category n xs ++ of_category n ys
@@ -65,14 +60,4 @@ module _ (session : SessionNo) where
   -- whole histories behind some commands are whole before them
   pub whole-before : (S : Standing) (before behind : List AtSeat) (own : ℕ → List OfData) → AreSeats session S before → AreSeats session S behind → ((n : ℕ) → seen_at behind n ≡ seen_at before n ++ own n)
       → (histories : List (History ObjData MorData)) → AreWhole histories behind → AreWhole histories before
-  whole-before S before behind own A B more histories W n s is =
-      let made = zip-left (IsSeat session) S.categories before n s A.all is in
-      let later = zip-right (IsSeat session) S.categories behind n made.0 B.all made.1 in
-      let whole = W n later.0 later.1 in
-      let same : later.0.offer ≡ s.offer = later.2.offer ∙ sym made.2.offer in
-      let longer : later.0.seen ≡ s.seen ++ own n = sym (ap seen_or_none later.1) ∙ more n ∙ ap (λ o. seen_or_none o ++ own n) is in
-      record {
-        later = own n ++ whole.later;
-        whole = whole.whole ∙ ap (λ es. es ++ whole.later) longer ∙ append_assoc s.seen (own n) whole.later;
-        legal = subst (λ x. Legal (frame (any_offer x) cells_in_object cells_in_morphism) (history_of histories n)) same whole.legal;
-      }
+  whole-before S before behind own A B more histories W = whole-longer before behind (longer-seats session S before behind own A B more) histories W

@@ -1,3 +1,10 @@
 pub mod Pairs
+pub mod Longer
 pub mod Growing
 pub mod Doing
+pub mod Owners
+pub mod Sharing
+pub mod InTurn
+pub mod Items
+pub mod Sessions
+pub mod Accounting

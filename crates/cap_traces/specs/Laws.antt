@@ -1,7 +1,7 @@
 -- What commands that run one after another are to the accounts, where nothing comes between a session's own entries.
 use Rattle.std.specs.Prelude.{◌≡◌, ℕ, ◌+◌, List, [], ◌∷◌, ◌++◌, length, map}
 use Rattle.std.specs.List.{All}
-use Rattle.core.specs.List.Sorted.{IsNonDecreasing}
+use Rattle.std.specs.List.Sorted.{IsNonDecreasing}
 use Rattle.cap_names.specs.declared.identifiers.CatNo.{CatNo}
 use Rattle.cap_names.specs.declared.identifiers.SessionNo.{SessionNo}
 use Rattle.cap_names.specs.declared.literals.MorLit.{MorLit}

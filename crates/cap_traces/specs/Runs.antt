@@ -64,7 +64,7 @@ ItemsRun S seats (i ∷ items) events answers S' seats' =
 
 -- the seats when another session sits down: it knows what was told before
 abbrev pub seated : SessionNo → List AtSeat → List AtSeat
-seated session seats = map (λ s. record s { session = session }) seats
+seated session seats = map (λ (s : AtSeat). record s { session = session }) seats
 
 -- a session behind the prelude: its commands run one after another
 pub record SessionRuns (n : ℕ) (S : Standing) (seats : List AtSeat) (part : Placed (SessionPart CheckedObj MorLit)) (t : Trace ObjData MorData) (seats' : List AtSeat) : Type 0 where

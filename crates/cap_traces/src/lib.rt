@@ -1,6 +1,8 @@
-//! Commands of a session that run one after another: what they are to the accounts.
+//! What runs on one thread, of a session's commands and of whole scripts, are to the accounts.
 #![tactic(auto)]
 
 mod laws;
 
-pub use laws::{law_chains_do, law_chains_go_on};
+pub use laws::{
+    law_chains_do, law_chains_go_on, law_items_go_on, law_runs_account, law_sessions_go_on,
+};
