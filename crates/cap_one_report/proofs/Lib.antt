@@ -1,0 +1,17 @@
+pub mod Replies
+pub mod Primitives
+pub mod Mismatches
+pub mod Entries
+pub mod Sides
+pub mod Traces
+pub mod Situations
+pub mod Doing
+pub mod Commands
+pub mod Told
+pub mod Agreeing
+pub mod Chains
+pub mod Turns
+pub mod Sessions
+pub mod Prelude
+pub mod Reports
+pub mod Whole
