@@ -21,6 +21,7 @@ use Rattle.cap_fitting.specs.Values.{bound_by}
 use Rattle.cap_data.specs.declared.data.ObjData.{ObjData}
 use Rattle.cap_data.specs.declared.data.MorData.{MorData}
 use Rattle.cap_data.specs.Counts.{cells_in_object, cells_in_morphism}
+use Rattle.cap_ops.specs.Told.{StaysTold}
 use Rattle.cap_offer.specs.Labels.{Label, any_offer}
 use Rattle.cap_report.specs.declared.lines.LineAnswer.{LineAnswer}
 use Rattle.cap_report.specs.declared.lines.LineAnswer.TheVariants as line
@@ -137,6 +138,7 @@ module _ (others : List OfData → Type 0) (are : AreOthers others) (S : Standin
           (runs-at others are session S seats c name made named is lacks s A.behind there answer I.own I.offer A.does);
       agrees = λ session at. let I = seat-here session at in
           subst (λ t. AgreesBehind S seats c answer (set seats made.number.0 t)) (sym A.emptied) (agrees-here (A.does.goes.offer ∙ I.offer));
+      stays = λ session at. subst (λ (t : AtSeat). (n : ℕ) → StaysTold (telling seats n) (telling (set seats made.number.0 t) n)) (sym A.emptied) (telling-stays seats made.number.0 s (emptied A.behind) there A.does.stays);
     }
 
   -- at no seat
@@ -148,6 +150,7 @@ module _ (others : List OfData → Type 0) (are : AreOthers others) (S : Standin
     are = λ session at. at;
     runs = λ session at. record { does = λ histories whole. does session histories; full = λ histories whole. full histories; grown = λ n. woven-start others are (seen_at seats n) };
     agrees = λ session at scope agrees fits literal. agrees-behind S (telling seats) (telling seats) (λ n h x e. e) scope agrees c answer (binds scope agrees fits);
+    stays = λ session at n h x e. e;
   }
 
   pub lacks_runs : (name : List ℕ) → lacking S c ≡ Some name → Runs others S seats c before (line.Refused (refusal.Lacks name)) seats before

@@ -12,6 +12,7 @@ use Rattle.cap_fitting.specs.Literals.{LiteralFits}
 use Rattle.cap_fitting.specs.Values.{bound_by}
 use Rattle.cap_data.specs.declared.data.MorData.{MorData}
 use Rattle.cap_data.specs.Counts.{cells_in_object, cells_in_morphism}
+use Rattle.cap_ops.specs.Told.{StaysTold}
 use Rattle.cap_offer.specs.Labels.{Label, any_offer}
 use Rattle.cap_report.specs.declared.lines.LineAnswer.{LineAnswer}
 use Rattle.cap_report.specs.declared.lines.LineAnswer.TheVariants as line
@@ -57,13 +58,14 @@ abbrev pub AgreesBehind : Standing → List AtSeat → Command CheckedObj MorLit
 AgreesBehind S seats c answer seats' = (scope : Scope) → Agrees scope S (telling seats) → CommandFits scope c → LiteralFits scope.over c
     → Agrees (behind_command scope c) (with_bound S (bound_name c) answer) (telling seats')
 
--- what running a command ensures: its own events stand behind the events, it runs as the command does, for the session whose seats they are, and the names agree with what stands behind it
+-- what running a command ensures: its own events stand behind the events, it runs as the command does, for the session whose seats they are, the names agree with what stands behind it, and what was told stays
 pub record Runs (others : List OfData → Type 0) (S : Standing) (seats : List AtSeat) (c : Command CheckedObj MorLit) (before : List (CatNo × OfData)) (answer : LineAnswer MorData) (seats' : List AtSeat) (after : List (CatNo × OfData)) : Type 0 where
   pub own : List (CatNo × OfData)
   pub added : after ≡ before ++ own
   pub are : (session : SessionNo) → AreSeats session S seats → AreSeats session S seats'
   pub runs : (session : SessionNo) → AreSeats session S seats → CommandRuns others session S seats c own answer seats'
   pub agrees : (session : SessionNo) → AreSeats session S seats → AgreesBehind S seats c answer seats'
+  pub stays : (session : SessionNo) → AreSeats session S seats → (n : ℕ) → StaysTold (telling seats n) (telling seats' n)
 
 -- the reference of a command that asks for an end names a morphism
 abbrev pub NamesArrow : Standing → Command CheckedObj MorLit → Type 0
