@@ -15,3 +15,4 @@ pub mod Sessions
 pub mod Prelude
 pub mod Reports
 pub mod Whole
+pub mod Runs

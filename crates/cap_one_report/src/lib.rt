@@ -3,4 +3,4 @@
 
 mod laws;
 
-pub use laws::{law_one_report, law_one_whole_report};
+pub use laws::{law_one_report, law_one_run, law_one_whole_report, law_runs_are_in_turn};
