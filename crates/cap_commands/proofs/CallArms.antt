@@ -33,9 +33,10 @@ use Rattle.cap_session_lines.specs.Doing.{CallDoes}
 use Rattle.cap_session_lines.proofs.Does.{call-does, call-one, call-full}
 use Rattle.cap_session_lines.proofs.Goes.{call-goes}
 use Rattle.cap_commands.specs.Kinds.{kinds}
-use Rattle.cap_commands.specs.Agreement.{Standing}
+use Rattle.cap_commands.specs.Agreement.{Standing, IsToldAnswer}
 use Rattle.cap_commands.specs.Seats.{AtSeat, OfData}
 use Rattle.cap_commands.specs.Doing.{IsFullSeen, DoesAt, CallGives, in_category}
+use Rattle.cap_commands.proofs.ToldAnswers.{call-told}
 
 -- a seat answers in its category by the rules
 pub is_ready : (s : AtSeat) (x : Label) → x ≡ s.offer → Ready (state_of s) x rule_table
@@ -68,10 +69,13 @@ module _ (others : List OfData → Type 0) (S : Standing) (made : Made Label) (o
   call-at cat name answer is holds g =
       let goes = call-goes (any_offer made.category) cells_in_object cells_in_morphism others s s' op.0 g.given answer g.does in
       let here : Holds (any_offer made.category) cells_in_object cells_in_morphism s' = subst (λ y. Holds (any_offer y) cells_in_object cells_in_morphism s') (goes.offer ∙ sym is) holds in
+      let told = call-told (any_offer made.category) (state_of s) (state_of s') (told_at s') op.0 g.given g.end answer g.says g.answered in
       record {
         more = g.does.goes.more;
         goes = goes;
         does = λ later. (g.given, g.are, call-one kinds others s s' made.category here op g.given answer g.does later);
+        sort = told.1;
+        told = subst (λ y. IsToldAnswer (any_offer y) (told_at s') answer) (is ∙ sym goes.offer) told.0;
         full = call-full-seen answer g;
         stays = g.grows.stays;
       }

@@ -42,27 +42,27 @@ module _ (others : List OfData → Type 0) (are : AreOthers others) (S : Standin
   as-command : (c : Command CheckedObj MorLit) → k ≡ c → (answer : LineAnswer MorData) (t : AtSeat) → DoesAt others (in_category s.session S made c) s answer t → Does t answer
   as-command c e answer t d = subst (λ x. DoesAt others (in_category s.session S made x) s answer t) (sym e) d
 
-  pub register-clause : (cat : List ℕ) (op : OpId) (weight written : Option ℕ) → k ≡ command.Register cat op weight → written ≡ weight → (r : Answered)
+  pub register-clause : (cat : List ℕ) (op : OpId) (weight written : Option ℕ) → k ≡ command.Register cat op weight → written ≡ weight → Holds (any_offer s'.offer) cells_in_object cells_in_morphism s' → (r : Answered)
       → IfOk r (λ answer. Event-does (event.Register op (weight_of (any_offer s.offer) op.0 written)) answer) → IfOk r (λ answer. Does s' answer)
-  register-clause cat op weight written e w (Ok answer) d =
-      as-command (command.Register cat op weight) e answer s' (register-at others are S made s s' is cat op weight answer (subst (λ v. Event-does (event.Register op (weight_of (any_offer s.offer) op.0 v)) answer) w d))
-  register-clause cat op weight written e w (Err x) d = tt
+  register-clause cat op weight written e w holds (Ok answer) d =
+      as-command (command.Register cat op weight) e answer s' (register-at others are S made s s' is holds cat op weight answer (subst (λ v. Event-does (event.Register op (weight_of (any_offer s.offer) op.0 v)) answer) w d))
+  register-clause cat op weight written e w holds (Err x) d = tt
 
-  pub finalise-clause : (cat : List ℕ) → k ≡ command.Finalise cat → (r : Answered) → IfOk r (λ answer. Event-does event.Finalise answer) → IfOk r (λ answer. Does s' answer)
-  finalise-clause cat e (Ok answer) d = as-command (command.Finalise cat) e answer s' (finalise-at others are S made s s' is cat answer d)
-  finalise-clause cat e (Err x) d = tt
+  pub finalise-clause : (cat : List ℕ) → k ≡ command.Finalise cat → Holds (any_offer s'.offer) cells_in_object cells_in_morphism s' → (r : Answered) → IfOk r (λ answer. Event-does event.Finalise answer) → IfOk r (λ answer. Does s' answer)
+  finalise-clause cat e holds (Ok answer) d = as-command (command.Finalise cat) e answer s' (finalise-at others are S made s s' is holds cat answer d)
+  finalise-clause cat e holds (Err x) d = tt
 
-  pub plan-clause : (cat : List ℕ) → k ≡ command.Plan cat → (r : Answered) → IfOk r (λ answer. Event-does event.PlanOf answer) → IfOk r (λ answer. Does s' answer)
-  plan-clause cat e (Ok answer) d = as-command (command.Plan cat) e answer s' (plan-at others are S made s s' is cat answer d)
-  plan-clause cat e (Err x) d = tt
+  pub plan-clause : (cat : List ℕ) → k ≡ command.Plan cat → Holds (any_offer s'.offer) cells_in_object cells_in_morphism s' → (r : Answered) → IfOk r (λ answer. Event-does event.PlanOf answer) → IfOk r (λ answer. Does s' answer)
+  plan-clause cat e holds (Ok answer) d = as-command (command.Plan cat) e answer s' (plan-at others are S made s s' is holds cat answer d)
+  plan-clause cat e holds (Err x) d = tt
 
-  pub object-clause : (cat name : List ℕ) (lit : CheckedObj) → k ≡ command.Object cat name lit → (r : Answered) → IfOk r (λ answer. ObjectDoes others made.category name lit s answer s') → IfOk r (λ answer. Does s' answer)
-  object-clause cat name lit e (Ok answer) d = as-command (command.Object cat name lit) e answer s' (object-at others are S made s s' is cat name lit answer d)
-  object-clause cat name lit e (Err x) d = tt
+  pub object-clause : (cat name : List ℕ) (lit : CheckedObj) → k ≡ command.Object cat name lit → Holds (any_offer s'.offer) cells_in_object cells_in_morphism s' → (r : Answered) → IfOk r (λ answer. ObjectDoes others made.category name lit s answer s') → IfOk r (λ answer. Does s' answer)
+  object-clause cat name lit e holds (Ok answer) d = as-command (command.Object cat name lit) e answer s' (object-at others are S made s s' is holds cat name lit answer d)
+  object-clause cat name lit e holds (Err x) d = tt
 
   pub let-clause : (cat name : List ℕ) (src tgt : RefTok) (lit : MorLit) (a b : Handle) → k ≡ command.Let name cat src tgt lit → accounts.object_at S src ≡ Some a → accounts.object_at S tgt ≡ Some b → Holds (any_offer s.offer) cells_in_object cells_in_morphism s
       → (r : Answered) → IfOk r (λ answer. MorphismDoes made.category (told_at s) a b lit answer) → IfOk r (λ answer. Does s answer)
-  let-clause cat name src tgt lit a b e source target holds (Ok answer) d = as-command (command.Let name cat src tgt lit) e answer s (let-at others are S made s cat name src tgt lit a b source target holds answer d)
+  let-clause cat name src tgt lit a b e source target holds (Ok answer) d = as-command (command.Let name cat src tgt lit) e answer s (let-at others are S made s cat name src tgt lit a b source target holds is answer d)
   let-clause cat name src tgt lit a b e source target holds (Err x) d = tt
 
   pub call-clause : (cat name : List ℕ) (op : OpId) (tokens given : List ArgTok) → k ≡ command.Call name cat op tokens → given ≡ tokens → Holds (any_offer s'.offer) cells_in_object cells_in_morphism s'

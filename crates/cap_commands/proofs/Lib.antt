@@ -1,4 +1,5 @@
 pub mod References
+pub mod ToldAnswers
 pub mod CallArguments
 pub mod EventArms
 pub mod CallArms
@@ -7,5 +8,6 @@ pub mod Ready
 pub mod Weights
 pub mod OwnEntries
 pub mod Seating
+pub mod Behind
 pub mod Clauses
 pub mod Running

@@ -102,11 +102,17 @@ module _ (S : Standing) (telling : Telling) where
     pub told : IsToldArrow (any_offer made.category) (telling made.number.0) f
 
   module _ (scope : Scope) (A : Agrees scope S telling) (cat : List ℕ) (made : Made Label) (is : category_of S cat ≡ Some made) where
+    -- the category that was made is the one of this name
+    told-here : (v : Value) (b : Bound MorData) → v.cat ≡ cat → Stands S telling v b → IsToldAnswer (any_offer made.category) (telling made.number.0) b.answer
+    told-here v b c s =
+        let same : s.made ≡ made = some_inner (sym s.is ∙ subst (λ n. category_of S n ≡ Some made) (sym c) is) in
+        subst (λ (m : Made Label). IsToldAnswer (any_offer m.category) (telling m.number.0) b.answer) same s.told
+
     object-told : (r : RefTok) (v : Value) (b : Bound MorData) → v.cat ≡ cat → v.sort ≡ Obj → answer_of S r.name ≡ Some b.answer → Stands S telling v b → is_there S (answer_of S r.name) ≡ true → ObjectNamed made r
     object-told r v b c o e s there =
         let binding : binds b.answer ≡ true = subst (λ a. is_there S a ≡ true) e there in
         let as-object = object-answer b.answer (subst (λ sort. HasSort sort b.answer) o s.sort) binding in
-        let told = s.told made (subst (λ n. category_of S n ≡ Some made) (sym c) is) in
+        let told = told-here v b c s in
         record {
           h = as-object.0;
           is = ap (option_and_then (object_in S)) (e ∙ ap Some as-object.1);
@@ -123,7 +129,7 @@ module _ (S : Standing) (telling : Telling) where
     arrow-told r v b None p c m e s there =
         let binding : binds b.answer ≡ true = subst (λ a. is_there S a ≡ true) e there in
         let as-arrow = arrow-answer b.answer (subst (λ sort. HasSort sort b.answer) m s.sort) binding in
-        let told = s.told made (subst (λ n. category_of S n ≡ Some made) (sym c) is) in
+        let told = told-here v b c s in
         record {
           f = as-arrow.0;
           is = ap (λ part. option_and_then (arrow_in S part) (answer_of S r.name)) p ∙ ap (option_and_then (arrow_in S None)) (e ∙ ap Some as-arrow.1);
@@ -133,7 +139,7 @@ module _ (S : Standing) (telling : Telling) where
     arrow-told r v b (Some i) p c m e s there =
         let binding : binds b.answer ≡ true = subst (λ a. is_there S a ≡ true) e there in
         let as-tuple = tuple-answer m.parts b.answer (subst (λ sort. HasSort sort b.answer) m.tuple s.sort) binding in
-        let told = s.told made (subst (λ n. category_of S n ≡ Some made) (sym c) is) in
+        let told = told-here v b c s in
         let all : All (IsToldArrow (any_offer made.category) (telling made.number.0)) as-tuple.0 = subst (λ a. IsToldAnswer (any_offer made.category) (telling made.number.0) a) as-tuple.1 told in
         let at = part-there as-tuple.0 (i - 1) (omega (arith, m.first, m.last, as-tuple.2)) in
         record {

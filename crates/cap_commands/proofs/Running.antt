@@ -1,6 +1,7 @@
 -- A command of a session over its seats runs as the accounts say.
 use Rattle.std.proofs.Common.{◌≡◌, ℕ, ◌<◌, Bool, true, false, not, List, [], ◌∷◌, ◌++◌, length, set, Option, Some, None, Result, Ok, Err, refl, sym, ap, ◌∙◌, subst, find, cond, filter_map}
 use Rattle.std.specs.Prelude.{slice_get, option_map, IsSome, IfOk}
+use Rattle.std.specs.List.{AllZip}
 use Rattle.std.proofs.lemmas.List.{append-nil}
 use Rattle.std.proofs.lemmas.Option.{slice_get_within}
 use Rattle.cap_names.specs.declared.faults.NoMemory.{NoMemory as Wanting}
@@ -15,16 +16,19 @@ use Rattle.cap_checked.specs.declared.tree.CheckedObj.{CheckedObj}
 use Rattle.cap_ops.specs.declared.arrows.Arrow.{Arrow}
 use Rattle.cap_ops.proofs.Places.{none≢some, some_inner}
 use Rattle.cap_rules.specs.Table.{rule_table}
+use Rattle.cap_fitting.specs.Commands.{Scope, CommandFits}
+use Rattle.cap_fitting.specs.Values.{bound_by}
 use Rattle.cap_data.specs.declared.data.ObjData.{ObjData}
 use Rattle.cap_data.specs.declared.data.MorData.{MorData}
 use Rattle.cap_data.specs.Counts.{cells_in_object, cells_in_morphism}
+use Rattle.cap_ops.specs.Told.{StaysTold}
 use Rattle.cap_offer.specs.Labels.{Label, any_offer}
 use Rattle.cap_report.specs.declared.lines.LineAnswer.{LineAnswer}
 use Rattle.cap_report.specs.declared.lines.LineAnswer.TheVariants as line
 use Rattle.cap_report.specs.declared.lines.LineRefusal.TheVariants as refusal
 use Rattle.cap_report.specs.declared.report.History.{History}
 use Rattle.cap_report.specs.declared.situation.Made.{Made}
-use Rattle.cap_report.specs.Named.{category_name}
+use Rattle.cap_report.specs.Named.{category_name, bound_name}
 use Rattle.cap_accounts.specs.Commands.{category_of, answer_of, is_made, is_there, argument_needs, lacking, arrow_at}
 use Rattle.cap_accounts.specs.Accounts.{DoesAll, DoesOrLacks}
 use Rattle.cap_desk.specs.Woven.{AreOthers}
@@ -33,12 +37,13 @@ use Rattle.cap_seat.specs.declared.tries.Try.{Try}
 use Rattle.cap_seat.specs.Events.{entered}
 use Rattle.cap_seat.specs.Seats.{told_at, Holds}
 use Rattle.cap_commands.specs.Kinds.{kinds}
-use Rattle.cap_commands.specs.Agreement.{Standing}
+use Rattle.cap_commands.specs.Agreement.{Standing, IsToldAnswer, Stands, Agrees}
 use Rattle.cap_commands.specs.Seats.{AtSeat, OfData, with_number, IsSeat, AreSeats, told_or_none, telling, seen_at, FullIsWhole, CommandRuns}
 use Rattle.cap_commands.specs.Doing.{Saying, DoesAt, IsAtSeat, in_category}
-use Rattle.cap_commands.specs.Running.{ComesTo, DoesAlone, DoesInPlace, EndDoes, IsPrepared, NamesArrow, Runs}
+use Rattle.cap_commands.specs.Running.{ComesTo, DoesAlone, DoesInPlace, EndDoes, IsPrepared, AgreesBehind, NamesArrow, Runs}
 use Rattle.cap_commands.proofs.References.{any-arrow}
 use Rattle.cap_commands.proofs.Ready.{needs-both}
+use Rattle.cap_commands.proofs.Behind.{bound_as, agrees-behind, answer-binds, refusal-binds, end-binds, source-told, target-told, told-there, telling-stays}
 use Rattle.cap_commands.proofs.Seating.{IsSeatOf, seat-of, emptied, runs-at, seats-after}
 
 -- what was tried is what the command tried
@@ -113,6 +118,14 @@ module _ (others : List OfData → Type 0) (are : AreOthers others) (S : Standin
     seat-here : (session : SessionNo) (at : AreSeats session S seats) → IsSeat session made s
     seat-here session at = let H = seat-is session at in subst (IsSeat session made) (some_inner (sym H.there ∙ there)) H.is
 
+    agrees-here : A.behind.offer ≡ made.category → AgreesBehind S seats c answer (set seats made.number.0 (emptied A.behind))
+    agrees-here offer scope agrees fits literal =
+        let told' = telling (set seats made.number.0 (emptied A.behind)) in
+        let told : IsToldAnswer (any_offer made.category) (told_at A.behind) answer = subst (λ x. IsToldAnswer (any_offer x) (told_at A.behind) answer) offer A.does.told in
+        agrees-behind S (telling seats) told' (telling-stays seats made.number.0 s (emptied A.behind) there A.does.stays) scope agrees c answer
+        (answer-binds S told' c name named scope.values answer A.does.sort made is
+        (subst (λ (look : Handle → Option ObjData). IsToldAnswer (any_offer made.category) look answer) (sym (told-there seats made.number.0 s (emptied A.behind) there A.does.stays)) told))
+
     pub seats_run : Runs others S seats c before answer (set seats made.number.0 s') after
     seats_run = record {
       own = with_number made.number (filter_map entered A.does.more);
@@ -123,21 +136,27 @@ module _ (others : List OfData → Type 0) (are : AreOthers others) (S : Standin
       runs = λ session at. let I = seat-here session at in
           subst (λ t. CommandRuns others session S seats c (with_number made.number (filter_map entered A.does.more)) answer (set seats made.number.0 t)) (sym A.emptied)
           (runs-at others are session S seats c name made named is lacks s A.behind there answer I.own I.offer A.does);
+      agrees = λ session at. let I = seat-here session at in
+          subst (λ t. AgreesBehind S seats c answer (set seats made.number.0 t)) (sym A.emptied) (agrees-here (A.does.goes.offer ∙ I.offer));
+      stays = λ session at. subst (λ (t : AtSeat). (n : ℕ) → StaysTold (telling seats n) (telling (set seats made.number.0 t) n)) (sym A.emptied) (telling-stays seats made.number.0 s (emptied A.behind) there A.does.stays);
     }
 
   -- at no seat
   nothing-runs : (answer : LineAnswer MorData) → ((session : SessionNo) (histories : List (History ObjData MorData)) → DoesOrLacks kinds rule_table histories (lacking S c) session S c [] answer) → ((histories : List (History ObjData MorData)) → FullIsWhole histories S c answer)
-      → Runs others S seats c before answer seats before
-  nothing-runs answer does full = record {
+      → ((scope : Scope) → Agrees scope S (telling seats) → CommandFits scope c → AllZip (Stands S (telling seats)) (bound_by scope.values c) (bound_as (bound_name c) answer)) → Runs others S seats c before answer seats before
+  nothing-runs answer does full binds = record {
     own = [];
     added = sym (append-nil before);
     are = λ session at. at;
     runs = λ session at. record { does = λ histories whole. does session histories; full = λ histories whole. full histories; grown = λ n. woven-start others are (seen_at seats n) };
+    agrees = λ session at scope agrees fits literal. agrees-behind S (telling seats) (telling seats) (λ n h x e. e) scope agrees c answer (binds scope agrees fits);
+    stays = λ session at n h x e. e;
   }
 
   pub lacks_runs : (name : List ℕ) → lacking S c ≡ Some name → Runs others S seats c before (line.Refused (refusal.Lacks name)) seats before
   lacks_runs name lacks =
       nothing-runs (line.Refused (refusal.Lacks name)) (λ session histories. subst (λ l. DoesOrLacks kinds rule_table histories l session S c [] (line.Refused (refusal.Lacks name))) (sym lacks) (refl, refl)) (λ histories. tt)
+      (λ scope agrees fits. refusal-binds S (telling seats) scope agrees c fits (refusal.Lacks name))
 
 -- the end of a morphism is no refusal
 end-not-full : (S : Standing) (c : Command CheckedObj MorLit) (histories : List (History ObjData MorData)) (g : Arrow MorData → Handle) (o : Option (Arrow MorData)) (answer : LineAnswer MorData) → option_map (λ f. line.Object (g f)) o ≡ Some answer → FullIsWhole histories S c answer
@@ -150,7 +169,9 @@ module _ (others : List OfData → Type 0) (are : AreOthers others) (S : Standin
 
   pub end_runs : (c : Command CheckedObj MorLit) (answer : LineAnswer MorData) → lacking S c ≡ None → EndDoes S c answer → Runs others S seats c before answer seats before
   end_runs (Src x r) answer lacks E = nothing-runs others are S seats (Src x r) before answer (λ session histories. end-does (Src x r) answer lacks E session histories (refl, E)) (λ histories. end-not-full S (Src x r) histories (λ f. f.src) (arrow_at S r) answer E)
+      (λ scope agrees fits. end-binds S (telling seats) scope agrees x r fits.morphism (needs-both (is_there S (answer_of S r.name)) r.name None lacks).0 (λ f. f.src) source-told answer E)
   end_runs (Tgt x r) answer lacks E = nothing-runs others are S seats (Tgt x r) before answer (λ session histories. end-does (Tgt x r) answer lacks E session histories (refl, E)) (λ histories. end-not-full S (Tgt x r) histories (λ f. f.tgt) (arrow_at S r) answer E)
+      (λ scope agrees fits. end-binds S (telling seats) scope agrees x r fits.morphism (needs-both (is_there S (answer_of S r.name)) r.name None lacks).0 (λ f. f.tgt) target-told answer E)
   end_runs (Register cat op weight) answer lacks E = absurd E
   end_runs (Finalise cat) answer lacks E = absurd E
   end_runs (Plan cat) answer lacks E = absurd E

@@ -54,12 +54,12 @@ found-at test [] x e = absurd (none≢some e)
 found-at test (y ∷ ys) x e = found-step (test y) y x ys (find test ys) (found-at test ys x) e
 
 -- a list in which one place is set
-set-here : {X : Type 0} (xs : List X) (i : ℕ) (x y : X) → slice_get xs i ≡ Some x → slice_get (set xs i y) i ≡ Some y
+pub set-here : {X : Type 0} (xs : List X) (i : ℕ) (x y : X) → slice_get xs i ≡ Some x → slice_get (set xs i y) i ≡ Some y
 set-here [] i x y e = absurd (none≢some e)
 set-here (z ∷ xs) zero x y e = refl
 set-here (z ∷ xs) (suc i) x y e = set-here xs i x y e
 
-set-elsewhere : {X : Type 0} (xs : List X) (i j : ℕ) (y : X) → (j ≡ i → ⊥) → slice_get (set xs i y) j ≡ slice_get xs j
+pub set-elsewhere : {X : Type 0} (xs : List X) (i j : ℕ) (y : X) → (j ≡ i → ⊥) → slice_get (set xs i y) j ≡ slice_get xs j
 set-elsewhere [] i j y apart = refl
 set-elsewhere (z ∷ xs) zero zero y apart = absurd (apart refl)
 set-elsewhere (z ∷ xs) zero (suc j) y apart = refl
@@ -114,6 +114,10 @@ apart-false false m n e apart = refl
 other-category : (number : CatNo) (n : ℕ) → (number.0 ≡ n → ⊥) → (entries : List OfData) → of_category n (with_number number entries) ≡ []
 other-category number n apart [] = refl
 other-category number n apart (e ∷ es) = no-number (number.0 == n) e (of_category n (with_number number es)) (apart-false (number.0 == n) number.0 n (eqb-true number.0 n) apart) ∙ other-category number n apart es
+
+pub number-apart : (b : Bool) (m n : ℕ) → (m ≡ n → b ≡ true) → b ≡ false → m ≡ n → ⊥
+number-apart true m n e f g = absurd cc
+number-apart false m n e f g = let t : false ≡ true = e g in absurd cc
 
 -- a command with a category does all that it does there
 does-all : (histories : List (History ObjData MorData)) (session : SessionNo) (S : Standing) (c : Command CheckedObj MorLit) (events : List (CatNo × OfData)) (answer : LineAnswer MorData)
@@ -182,10 +186,6 @@ module _ (others : List OfData → Type 0) (are : AreOthers others) (session : S
         let other = apart refl in
         subst (λ es. IsWoven others (seen_at seats n) es (seen_at after n)) (sym (other-category made.number n other entries))
         (subst (λ o. IsWoven others (seen_at seats n) [] (seen_or_none o)) (sym (set-elsewhere seats made.number.0 n (emptied s') (λ e. other (sym e)))) (woven-start others are (seen_at seats n)))
-
-    number-apart : (b : Bool) (m n : ℕ) → (m ≡ n → b ≡ true) → b ≡ false → m ≡ n → ⊥
-    number-apart true m n e f g = absurd cc
-    number-apart false m n e f g = let t : false ≡ true = e g in absurd cc
 
     pub runs-at : CommandRuns others session S seats c (with_number made.number entries) answer after
     runs-at = record {

@@ -7,9 +7,12 @@ use Rattle.cap_names.specs.declared.identifiers.SessionNo.{SessionNo}
 use Rattle.cap_names.specs.declared.literals.MorLit.{MorLit}
 use Rattle.cap_grammar.specs.declared.tree.ArgTok.{ArgTok}
 use Rattle.cap_grammar.specs.declared.tree.Command.{Command}
+use Rattle.cap_grammar.specs.declared.tree.Command.TheVariants.{Object, Let, Call}
 use Rattle.cap_checked.specs.declared.tree.CheckedObj.{CheckedObj}
 use Rattle.cap_ops.specs.declared.keys.Arg.{Arg}
+use Rattle.cap_ops.specs.declared.sorts.Sort.TheVariants.{Obj, Mor}
 use Rattle.cap_ops.specs.Arrows.{arguments}
+use Rattle.cap_ops.specs.Ends.{operation_answer}
 use Rattle.cap_ops.specs.Mismatches.{HaveSorts}
 use Rattle.cap_ops.specs.Primitives.{prime_of}
 use Rattle.cap_ops.specs.Told.{told_in, Known, IsArrow, StaysTold}
@@ -40,23 +43,26 @@ use Rattle.cap_seat.specs.Events.{entered, HasFullFront}
 use Rattle.cap_seat.specs.Seats.{told_at, state_of}
 use Rattle.cap_session_lines.specs.Doing.{EventDoes, CallDoes, GoesBy}
 use Rattle.cap_commands.specs.Kinds.{kinds, ObjectIs, MorphismIs}
-use Rattle.cap_commands.specs.Agreement.{Standing, Telling, Agrees}
+use Rattle.cap_commands.specs.Agreement.{Standing, HasSort, IsToldAnswer, Telling, Agrees}
 use Rattle.cap_commands.specs.Seats.{AtSeat, OfData}
 
--- what is said of the objects that a whole history tells, of the entries of a command, and of its answer
-abbrev pub Saying : Type 1
-Saying = (Handle → Option ObjData) → List OfData → LineAnswer MorData → Type 0
+-- what is said of a command: of the objects that a whole history tells, of its entries and its answer; and of the sort that its answer has
+pub record Saying : Type 1 where
+  pub said : (Handle → Option ObjData) → List OfData → LineAnswer MorData → Type 0
+  pub sort : LineAnswer MorData → Type 0
 
 -- a line that is refused since a history is full was refused by a front of what was seen
 abbrev pub IsFullSeen : List OfData → LineAnswer MorData → Type 0
 IsFullSeen seen (line.Refused (refusal.Full n k)) = HasFullFront cells_in_object cells_in_morphism seen n k
 IsFullSeen seen answer = Unit {0}
 
--- A command at a seat: on whatever whole history, its entries and its answer are as they are said; and what was told stays.
+-- A command at a seat: on whatever whole history, its entries and its answer are as they are said; its answer has its sort, and its objects and morphisms are told; and what was told stays.
 pub record DoesAt (others : List OfData → Type 0) (says : Saying) (s : AtSeat) (answer : LineAnswer MorData) (s' : AtSeat) : Type 0 where
   pub more : List (Try ObjData MorData)
   pub goes : GoesBy others s more s'
-  pub does : (later : List OfData) → says (told_in (objects (s'.seen ++ later))) (filter_map entered more) answer
+  pub does : (later : List OfData) → says.said (told_in (objects (s'.seen ++ later))) (filter_map entered more) answer
+  pub sort : says.sort answer
+  pub told : IsToldAnswer (any_offer s'.offer) (told_at s') answer
   pub full : IsFullSeen s'.seen answer
   pub stays : StaysTold (told_at s) (told_at s')
 
@@ -82,9 +88,16 @@ pub record MorphismDoes (x : Label) (told : Handle → Option ObjData) (a b : Ha
   pub answered : answer ≡ literal_line a b read
   pub arrow : IfOk read (λ f. IsArrow (any_offer x).category (from_to from to f))
 
+-- the answer has the sort of the value that the command binds, where it is one with a category that binds a value
+abbrev pub HasItsSort : Command CheckedObj MorLit → LineAnswer MorData → Type 0
+HasItsSort (Object cat x lit) answer = HasSort Obj answer
+HasItsSort (Let x cat src tgt lit) answer = HasSort Mor answer
+HasItsSort (Call x cat op args) answer = HasSort (operation_answer op.0) answer
+HasItsSort _ answer = Unit {0}
+
 -- what a command does in its category, behind what stands
 abbrev pub in_category : SessionNo → Standing → Made Label → Command CheckedObj MorLit → Saying
-in_category session S made c told entries answer = DoesIn kinds rule_table session S made told c entries answer
+in_category session S made c = record { said = λ told entries answer. DoesIn kinds rule_table session S made told c entries answer; sort = HasItsSort c }
 
 -- whatever arguments the tokens of a call stand for, they have the operation's sorts, and are data of the category between objects that were told
 pub record AreCallable (S : Standing) (x : Label) (told : Handle → Option ObjData) (op : ℕ) (tokens : List ArgTok) : Type 0 where

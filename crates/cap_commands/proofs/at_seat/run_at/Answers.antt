@@ -57,23 +57,23 @@ pub returns-in-Register-clause-does : goal.returns-in-Register-clause-does
 returns-in-Register-clause-does g c =
     let k = c.in-Register in
     register-clause g.D.Desk.others g.met.D.Desk.are_others c.args.standing.now c.args.made.now c.args.seat.now c.register_line.new.seat c.requires.offer c.args.command.now
-    k.cat k.op k.weight c.written_weight.result k.is c.written_weight.ensures c.register_line.result c.register_line.ensures.does
+    k.cat k.op k.weight c.written_weight.result k.is c.written_weight.ensures c.register_line.ensures.holds c.register_line.result c.register_line.ensures.does
 
 pub returns-in-Finalise-clause-does : goal.returns-in-Finalise-clause-does
 returns-in-Finalise-clause-does g c =
     finalise-clause g.D.Desk.others g.met.D.Desk.are_others c.args.standing.now c.args.made.now c.args.seat.now c.finalise_line.new.seat c.requires.offer c.args.command.now
-    c.in-Finalise.cat c.in-Finalise.is c.finalise_line.result c.finalise_line.ensures.does
+    c.in-Finalise.cat c.in-Finalise.is c.finalise_line.ensures.holds c.finalise_line.result c.finalise_line.ensures.does
 
 pub returns-in-Plan-clause-does : goal.returns-in-Plan-clause-does
 returns-in-Plan-clause-does g c =
     plan-clause g.D.Desk.others g.met.D.Desk.are_others c.args.standing.now c.args.made.now c.args.seat.now c.plan_line.new.seat c.requires.offer c.args.command.now
-    c.in-Plan.cat c.in-Plan.is c.plan_line.result c.plan_line.ensures.does
+    c.in-Plan.cat c.in-Plan.is c.plan_line.ensures.holds c.plan_line.result c.plan_line.ensures.does
 
 pub returns-in-Object-clause-does : goal.returns-in-Object-clause-does
 returns-in-Object-clause-does g c =
     let k = c.in-Object in
     object-clause g.D.Desk.others g.met.D.Desk.are_others c.args.standing.now c.args.made.now c.args.seat.now c.run_object.new.seat c.requires.offer c.args.command.now
-    k.cat k.name k.lit k.is c.run_object.result c.run_object.ensures.does
+    k.cat k.name k.lit k.is c.run_object.ensures.holds c.run_object.result c.run_object.ensures.does
 
 pub returns-in-Let-clause-does : goal.returns-in-Let-clause-does
 returns-in-Let-clause-does g c =
