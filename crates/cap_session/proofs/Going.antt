@@ -88,7 +88,7 @@ module _ (others : List OfData → Type 0) (session : SessionNo) (C0 : Course At
         record {
           comes = g.comes;
           chain = rw (front, r.runs.added, answers, r.standing) chain;
-          counted = subst (CountFrom 0) (sym r.done) (counts-on 0 C.done.items (record { command = length C.done.items; answer = r.answer }) g.counted refl);
+          counted = subst (CountFrom 0) (sym r.done) (counts-on 0 C.done.items (record { command = length C.done.items; answer = r.answer }) g.counted (omega arith));
           long = ap length r.done ∙ length-append C.done.items (record { command = length C.done.items; answer = r.answer } ∷ []) ∙ ap (λ n. n + 1) g.long;
           are = subst (λ T. AreSeats session T seats) (sym r.standing) (seats-behind session C.standing (bound_name c.node) r.answer seats (r.runs.are session g.are));
           agrees = subst (λ T. Agrees next T (telling seats)) (sym r.standing) (agrees-in (behind_command here c.node) next S (telling seats) values (λ cat. refl) agrees);

@@ -6,3 +6,4 @@ pub mod Parts
 pub mod Making
 pub mod PreludeParts
 pub mod Reporting
+pub mod Whole

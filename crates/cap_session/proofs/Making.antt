@@ -1,6 +1,7 @@
 -- A category that is made behind the parts of a prelude.
 use Rattle.std.proofs.Common.{◌≡◌, ◌⊎◌, inl, inr, ℕ, ◌+◌, Bool, true, false, cond, List, [], ◌∷◌, ◌++◌, length, Option, Some, None, refl, sym, ap, ◌∙◌, subst, slice_get, find, arith}
-use Rattle.std.specs.Prelude.{option_or, option_and_then}
+use Rattle.std.specs.Prelude.{option_and_then}
+use Rattle.std.specs.Option.{option_or}
 use Rattle.std.specs.List.{AllZip}
 use Rattle.std.proofs.lemmas.List.Folds.{find-append}
 use Rattle.cap_names.specs.declared.identifiers.Handle.{Handle}
@@ -29,7 +30,7 @@ use Rattle.cap_traces.specs.Runs.{prelude_session, new_seat}
 use Rattle.cap_session.proofs.Parts.{slice-last, slice-front, zip-push, found-first, found-none, none-apart}
 use Rattle.cap_session.proofs.Staying.{stands-stays}
 
-abbrev is_named : List ℕ → CheckedPart → Bool
+abbrev pub is_named : List ℕ → CheckedPart → Bool
 is_named cat p = is_category_named cat p.node
 
 -- where no part is a category of a name, none of that name is made

@@ -144,7 +144,7 @@ module _ (go : ItemsGoOn) (C0 : Course AtSeat) (parts : List CheckedPart) (come 
     answers-on a done = ap (map answer_of_done) done ∙ map-append answer_of_done C.done.items (record { command = length C.done.items; answer = a } ∷ [])
 
     counted-on : (a : LineAnswer MorData) → C'.done.items ≡ C.done.items ++ record { command = length C.done.items; answer = a } ∷ [] → CountFrom 0 C'.done.items
-    counted-on a done = subst (CountFrom 0) (sym done) (counts-on 0 C.done.items (record { command = length C.done.items; answer = a }) s.counted refl)
+    counted-on a done = subst (CountFrom 0) (sym done) (counts-on 0 C.done.items (record { command = length C.done.items; answer = a }) s.counted (omega arith))
 
     long-on : (a : LineAnswer MorData) → C'.done.items ≡ C.done.items ++ record { command = length C.done.items; answer = a } ∷ [] → length C'.done.items ≡ length next
     long-on a done = ap length done ∙ length-append C.done.items (record { command = length C.done.items; answer = a } ∷ []) ∙ ap (λ n. n + 1) s.long ∙ sym (ap length longer ∙ length-append before (p ∷ []))
@@ -176,7 +176,7 @@ module _ (go : ItemsGoOn) (C0 : Course AtSeat) (parts : List CheckedPart) (come 
           agrees = rw (r.standing, r.seats) agrees;
           others = subst (λ T. NoOthers next T) (sym r.standing) (subst (λ ps. NoOthers ps S) (sym longer) (no-others C.standing name prime made refl refl before p node s.others));
           made = ap (λ (T : Standing). length T.categories) r.standing ∙ length-append C.standing.categories (made ∷ []) ∙ ap (λ n. n + 1) s.made
-          ∙ sym (count_by_more_yes (λ (q : CheckedPart). is_category q.node) parts i p h (ap (λ (q : CheckedPart). is_category q.node) (sym at) ∙ ap is_category node));
+              ∙ sym (count_by_more_yes (λ (q : CheckedPart). is_category q.node) parts i p h (ap (λ (q : CheckedPart). is_category q.node) (sym at) ∙ ap is_category node));
         }
 
     stood-ran : (c : Command CheckedObj MorLit) → p.node ≡ top.Command c → CommandFits (behind_parts before) c → LiteralFits (category_over before) c → RunsOne IsNothing C c C' → Stood next C'
@@ -200,7 +200,7 @@ module _ (go : ItemsGoOn) (C0 : Course AtSeat) (parts : List CheckedPart) (come 
           agrees = subst (λ T. Agrees (behind_parts next) T (telling seats)) (sym r.standing) (agrees-in (behind_command here c) (behind_parts next) S (telling seats) values over agrees);
           others = λ cat e. ap (find (λ (m : Made Label). same m.name cat)) (ap (λ (T : Standing). T.categories) r.standing ∙ bound-makes-none C.standing (bound_name c) r.answer) ∙ s.others cat (none-apart (is_named cat) before (p ∷ []) (ap (find (is_named cat)) (sym longer) ∙ e)).0;
           made = ap length (ap (λ (T : Standing). T.categories) r.standing ∙ bound-makes-none C.standing (bound_name c) r.answer) ∙ s.made
-          ∙ sym (count_by_more_no (λ (q : CheckedPart). is_category q.node) parts i p h (ap (λ (q : CheckedPart). is_category q.node) (sym at) ∙ ap is_category node));
+              ∙ sym (count_by_more_no (λ (q : CheckedPart). is_category q.node) parts i p h (ap (λ (q : CheckedPart). is_category q.node) (sym at) ∙ ap is_category node));
         }
 
     stood-over : (name : List ℕ) (over : Over) → p.node ≡ top.Category name over → MakesOver C name over C' → Stood next C'
@@ -220,4 +220,4 @@ module _ (go : ItemsGoOn) (C0 : Course AtSeat) (parts : List CheckedPart) (come 
 pub stood-all : (parts : List CheckedPart) (i : ℕ) (C : Course AtSeat) → length parts ≤ i → Stood (take i parts) C → RunsParts parts C
 stood-all parts i C h s =
     let t : Stood parts C = subst (λ ps. Stood ps C) (take_all i parts h) s in
-    record { runs = t.runs; counted = t.counted; are = t.are; agrees = agrees-in (behind_parts parts) (behind_commands parts []) C.standing (telling C.seats.items) refl (λ cat. refl) t.agrees }
+    record { runs = t.runs; counted = t.counted; are = t.are; agrees = agrees-in (behind_parts parts) (behind_commands parts []) C.standing (telling C.seats.items) refl (λ cat. refl) t.agrees; made = t.made }

@@ -125,8 +125,8 @@ module _ (C0 : Course AtSeat) (sessions : List CheckedSession) (traces0 : List (
     pub next-number : length traces ≡ 1 + i
     next-number = omega (arith, ap length s.added, length-append traces0 s.own, s.long, s.come.prelude_alone)
 
-    pub sitting-on : SessionsGoOn → (session : SessionNo) (t : Trace ObjData MorData) (C' : Course AtSeat) → session.0 ≡ length traces → RunsSession IsNothing session C p.node.commands t C' → Sitting (i + 1) C' (traces ++ t ∷ [])
-    sitting-on go session t C' number r =
+    pub sitting-on : SessionsGoOn → (session : SessionNo) (t : Trace ObjData MorData) (C' : Course AtSeat) → RunsSession IsNothing session C p.node.commands t C' → session.0 ≡ length traces → Sitting (i + 1) C' (traces ++ t ∷ [])
+    sitting-on go session t C' r number =
         let S = C0.standing in
         let chain : Chain IsNothing session S (seated session C.seats.items) (map (λ (c : CheckedCommand). c.node) p.node.commands) t.events (map (λ d. d.answer) t.done) r.behind C'.seats.items =
         subst (λ T. Chain IsNothing session T (seated session C.seats.items) (map (λ (c : CheckedCommand). c.node) p.node.commands) t.events (map (λ d. d.answer) t.done) r.behind C'.seats.items) s.standing r.chain in
@@ -156,4 +156,6 @@ module _ (C0 : Course AtSeat) (sessions : List CheckedSession) (traces0 : List (
     own = s.own;
     added = s.added;
     runs = subst (λ ps. SessionsRun 1 C0.standing C0.seats.items ps s.own C.seats.items) (take_all i sessions h) s.runs;
+    last = s.last;
+    are = s.are;
   }

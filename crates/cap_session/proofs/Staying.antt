@@ -1,8 +1,9 @@
 -- Names that agree still do so when more is told, when another session sits down, and when what a session bound is forgotten.
-use Rattle.std.proofs.Common.{◌≡◌, ℕ, zero, suc, List, [], ◌∷◌, ◌++◌, length, map, take, Option, Some, None, refl, sym, ap, ◌∙◌, subst, slice_get}
+use Rattle.std.proofs.Common.{◌≡◌, ℕ, zero, suc, ◌+◌, ◌<◌, List, [], ◌∷◌, ◌++◌, length, map, take, drop, get_or, slice_set, Option, Some, None, refl, sym, ap, ◌∙◌, subst, slice_get, append_assoc, add-one, arith}
 use Rattle.std.specs.Prelude.{option_map}
 use Rattle.std.specs.List.{All, AllZip}
-use Rattle.std.proofs.Math.Seq.{take-append_seam}
+use Rattle.std.proofs.Math.Seq.{take-append_seam, take-suc}
+use Rattle.std.proofs.lemmas.List.{length-map, length-take, map-append}
 use Rattle.std.proofs.lemmas.List.Elements.{All-weaker}
 use Rattle.std.proofs.lemmas.Option.{slice_get-map}
 use Rattle.cap_names.specs.declared.identifiers.Handle.{Handle}
@@ -100,3 +101,32 @@ pub seats-back : (session : SessionNo) (S S' : Standing) (seats : List AtSeat) �
 seats-back session S S' seats s A =
     let B : AreSeats session (record S { bound = S.bound ++ s.more }) seats = subst (λ T. AreSeats session T seats) s.is A in
     record { numbered = B.numbered; all = B.all }
+
+-- seats of which the front ones are a session's, one more at a time
+set-middle : {X : Type 0} (xs : List X) (y : X) (ys : List X) (z : X) → slice_set (xs ++ y ∷ ys) (length xs) z ≡ xs ++ z ∷ ys
+set-middle [] y ys z = refl
+set-middle (x ∷ xs) y ys z = ap (λ l. x ∷ l) (set-middle xs y ys z)
+
+get-middle : {X : Type 0} (xs : List X) (y : X) (ys : List X) (d : X) → get_or (xs ++ y ∷ ys) (length xs) d ≡ y
+get-middle [] y ys d = refl
+get-middle (x ∷ xs) y ys d = get-middle xs y ys d
+
+drop-at : {X : Type 0} (xs : List X) (i : ℕ) (d : X) → i < length xs → drop i xs ≡ get_or xs i d ∷ drop (suc i) xs
+drop-at [] i d h = absurd (omega arith)
+drop-at (y ∷ ys) zero d h = refl
+drop-at (y ∷ ys) (suc i) d h = drop-at ys i d (omega arith)
+
+pub seated-more : (session : SessionNo) (all seats : List AtSeat) (i : ℕ) (x y : AtSeat) → i < length all → seats ≡ seated session (take i all) ++ drop i all → y ≡ record (get_or seats i x) { session = session }
+    → slice_set seats i y ≡ seated session (take (i + 1) all) ++ drop (i + 1) all
+seated-more session all seats i x y h before change =
+    let f : AtSeat → AtSeat = λ (s : AtSeat). record s { session = session } in
+    let z : AtSeat = get_or all i x in
+    let front : List AtSeat = seated session (take i all) in
+    let rest : List AtSeat = drop (i + 1) all in
+    let long : length front ≡ i = length-map (take i all) f ∙ omega (arith, length-take i all, h) in
+    let tail : drop i all ≡ z ∷ rest = drop-at all i x h ∙ ap (λ n. z ∷ drop n all) (sym (add-one i)) in
+    let whole : seats ≡ front ++ z ∷ rest = before ∙ ap (λ l. front ++ l) tail in
+    let same : get_or seats i x ≡ z = ap (λ l. get_or l i x) whole ∙ ap (λ n. get_or (front ++ z ∷ rest) n x) (sym long) ∙ get-middle front z rest x in
+    let longer : seated session (take (i + 1) all) ≡ front ++ f z ∷ [] = ap (λ n. map f (take n all)) (add-one i) ∙ ap (map f) (take-suc all i x h) ∙ map-append f (take i all) (z ∷ []) in
+    ap (λ l. slice_set l i y) whole ∙ ap (λ n. slice_set (front ++ z ∷ rest) n y) (sym long) ∙ set-middle front z rest y ∙ ap (λ s. front ++ s ∷ rest) (change ∙ ap f same)
+    ∙ sym (append_assoc front (f z ∷ []) rest) ∙ ap (λ l. l ++ rest) (sym longer)

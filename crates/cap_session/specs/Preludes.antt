@@ -9,6 +9,7 @@ use Rattle.cap_grammar.specs.declared.tree.Over.TheVariants.{Vec, Add, Freyd, Re
 use Rattle.cap_checked.specs.declared.tree.CheckedObj.{CheckedObj}
 use Rattle.cap_checked.specs.declared.tree.Checked.{Checked}
 use Rattle.cap_check.specs.Unbuilt.{CheckedPart, unbuilt}
+use Rattle.cap_fitting.specs.Categories.{number_of_categories}
 use Rattle.cap_fitting.specs.Forms.{behind_commands, FormFits}
 use Rattle.cap_fitting.specs.Literals.{LiteralsFit}
 use Rattle.cap_data.specs.declared.data.ObjData.{ObjData}
@@ -81,3 +82,4 @@ pub record RunsParts (parts : List CheckedPart) (C' : Course AtSeat) : Type 0 wh
   pub counted : CountFrom 0 C'.done.items
   pub are : AreSeats prelude_session C'.standing C'.seats.items
   pub agrees : Agrees (behind_commands parts []) C'.standing (telling C'.seats.items)
+  pub made : length C'.standing.categories ≡ number_of_categories parts

@@ -62,3 +62,5 @@ pub record RunsSessions (C : Course AtSeat) (sessions : List CheckedSession) (tr
   pub own : List (Trace ObjData MorData)
   pub added : traces' ≡ traces ++ own
   pub runs : SessionsRun 1 C.standing C.seats.items sessions own C'.seats.items
+  pub last : SessionNo
+  pub are : AreSeats last C.standing C'.seats.items

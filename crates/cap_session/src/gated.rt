@@ -67,7 +67,8 @@ impl<'g, C: Offer, D: Desk<C>, G: Gate> Desk<C> for Gated<'g, D, G> {
         self.gate.pass(session.0, GatePlace::Held(self.category.0));
         let entered = self.desk.enter(alloc, session, event);
         if let Ok((Reply::Miss(_), _)) = &entered {
-            self.gate.pass(session.0, GatePlace::Missed(self.category.0));
+            self.gate
+                .pass(session.0, GatePlace::Missed(self.category.0));
         }
         entered
     }

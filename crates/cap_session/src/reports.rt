@@ -1,5 +1,5 @@
 // The report of a run.
-ghost use Rattle.std.specs.Prelude.{◌≡◌, ◌≤◌, length, IfOk};
+ghost use Rattle.std.specs.Prelude.{◌≡◌, ◌<◌, ◌≤◌, length, IfOk};
 ghost use Rattle.cap_session.specs.Reports.{IsReport};
 
 use crate::prelude::OwnSeat;
@@ -8,6 +8,14 @@ use cap_io::Gate;
 use cap_names::{CatNo, Items, NoMemory};
 use cap_report::{History, Report, Trace};
 use std::alloc::Global;
+
+/// The number of a category behind so many.
+fn next_category(categories: usize) -> CatNo
+    requires { categories < 256 }
+    ensures { result.0 ≡ categories }
+{
+    CatNo(categories as u8)
+}
 
 /// The report of what these seats have seen and of what these traces say.
 pub(crate) fn report<'g, G: Gate>(
@@ -26,7 +34,7 @@ pub(crate) fn report<'g, G: Gate>(
         if let Some(plan) = ledger.plan() {
             plans.push(plan)?;
         }
-        let cat = CatNo(histories.len() as u8);
+        let cat = next_category(histories.len());
         let entries = Items::new(ledger.into_history());
         histories.push(History { cat, entries })?;
     }

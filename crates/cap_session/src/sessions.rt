@@ -1,5 +1,5 @@
 // Sessions behind the prelude, one after another.
-ghost use Rattle.std.specs.Prelude.{◌≡◌, IfOk, OnOk};
+ghost use Rattle.std.specs.Prelude.{◌≡◌, ◌<◌, IfOk, OnOk};
 ghost use Rattle.cap_rules.specs.Table.{rule_table};
 ghost use Rattle.cap_traces.specs.Runs.{seated};
 ghost use Rattle.cap_session.specs.Courses.{Hands};
@@ -65,6 +65,14 @@ pub(crate) fn run_session<D: Desk<AnyCat> + Drop, G: Gate>(
     Ok(hand_over(alloc, course, session))
 }
 
+/// The number of the session behind so many traces, that of the prelude among them.
+fn next_session(traces: usize) -> SessionNo
+    requires { traces < 256 }
+    ensures { result.0 ≡ traces }
+{
+    SessionNo(traces as u8)
+}
+
 /// Runs the sessions one after another, and puts their traces behind that of the prelude.
 pub(crate) fn run_sessions<'g, G: Gate>(
     alloc: Global,
@@ -79,7 +87,7 @@ pub(crate) fn run_sessions<'g, G: Gate>(
     ensures { OnOk result (RunsSessions course.old sessions.now traces.old.items course.new traces.new.items) }
 {
     'sessions: for part in sessions {
-        let session = SessionNo(traces.len() as u8);
+        let session = next_session(traces.len());
         let commands = part.node.commands.as_slice();
         traces.push(run_session(alloc, rules, course, commands, session, gate)?)?;
     }

@@ -31,7 +31,8 @@ fn script(rt: &impl Abort, alloc: Global, text: &str) -> Checked {
 
 #[test]
 fn each_command_each_event_and_each_miss_passes_the_gate(rt: HostRuntime) -> Result<(), Fail> {
-    let text = "category V vec 5\nregister V Identity\nfinalise V\nobject V a = 1\nlet i = V Identity a\nlet j = V Identity a\nsession s\nlet k = V Identity a\nlet l = V Compose k k\nend\n";
+    let text =
+        "category V vec 5\nregister V Identity\nfinalise V\nobject V a = 1\nlet i = V Identity a\nlet j = V Identity a\nsession s\nlet k = V Identity a\nlet l = V Compose k k\nend\n";
     let gate = Counts {
         commands: AtomicU32::new(0),
         held: AtomicU32::new(0),
