@@ -8,12 +8,12 @@ pub fn law_certificates_are_determined()
     ensures { OneCertificates }
 {}
 
-/// What `cap plan` says of an input, and its text, are determined by the input.
+/// What `cap plan` says of an input, its text and its report are determined by the input.
 pub fn law_plan_says_one_thing()
     ensures { SaysOneThing IsPlanJudged }
 {}
 
-/// What `cap check` says of an input, and its text, are determined by the input.
+/// What `cap check` says of an input, its text and its report are determined by the input.
 pub fn law_check_says_one_thing()
     ensures { SaysOneThing IsCheckJudged }
 {}

@@ -1,4 +1,4 @@
-//! What each command says of an input, and its text, is determined by the input; its status tells which faults came.
+//! What `plan` and `check` say of an input, with its text and its report, is determined by the input; the status of a run tells which faults came.
 #![tactic(auto)]
 
 mod laws;
