@@ -1,6 +1,7 @@
 pub mod Certificates
+pub mod Faults
+pub mod Refusals
 pub mod Plans
-pub mod Kernels
 pub mod Plain
 pub mod Judgements
 pub mod Checks

@@ -37,21 +37,21 @@ write_told before after read risen = record {
 }
 
 pub run_tells_faults : (says : Judging) → TellsFaults (IsRun says)
-run_tells_faults says before after Ok h = neither_told before after Ok (λ e. cc) (λ e. cc) h.read_well h.wrote_well
-run_tells_faults says before after Rejected h = neither_told before after Rejected (λ e. cc) (λ e. cc) h.read_well h.wrote_well
-run_tells_faults says before after BadScript h = neither_told before after BadScript (λ e. cc) (λ e. cc) h.read_well h.wrote_well
-run_tells_faults says before after TooLong h = neither_told before after TooLong (λ e. cc) (λ e. cc) h.read_well h.wrote_well
-run_tells_faults says before after WriteFault h = write_told before after h.read_well h.risen
-run_tells_faults says before after ReadFault h = read_told before after h.risen h.quiet.1
-run_tells_faults says before after NoMemory h = neither_told before after NoMemory (λ e. cc) (λ e. cc) h.read_well h.quiet.1
-run_tells_faults says before after Usage h = absurd h
+run_tells_faults says before after Ok report h = neither_told before after Ok (λ e. cc) (λ e. cc) h.read_well h.wrote_well
+run_tells_faults says before after Rejected report h = neither_told before after Rejected (λ e. cc) (λ e. cc) h.read_well h.wrote_well
+run_tells_faults says before after BadScript report h = neither_told before after BadScript (λ e. cc) (λ e. cc) h.read_well h.wrote_well
+run_tells_faults says before after TooLong report h = neither_told before after TooLong (λ e. cc) (λ e. cc) h.read_well h.wrote_well
+run_tells_faults says before after WriteFault report h = write_told before after h.read_well h.risen
+run_tells_faults says before after ReadFault report h = read_told before after h.risen h.quiet.1
+run_tells_faults says before after NoMemory report h = neither_told before after NoMemory (λ e. cc) (λ e. cc) h.read_well h.quiet.1
+run_tells_faults says before after Usage report h = absurd h
 
 pub usage_tells_faults : TellsFaults IsUsageRun
-usage_tells_faults before after Usage h = neither_told before after Usage (λ e. cc) (λ e. cc) h.0.1 h.2
-usage_tells_faults before after WriteFault h = write_told before after h.0.1 h.2
-usage_tells_faults before after Ok h = absurd h
-usage_tells_faults before after BadScript h = absurd h
-usage_tells_faults before after TooLong h = absurd h
-usage_tells_faults before after ReadFault h = absurd h
-usage_tells_faults before after NoMemory h = absurd h
-usage_tells_faults before after Rejected h = absurd h
+usage_tells_faults before after Usage report h = neither_told before after Usage (λ e. cc) (λ e. cc) h.0.1 h.2
+usage_tells_faults before after WriteFault report h = write_told before after h.0.1 h.2
+usage_tells_faults before after Ok report h = absurd h
+usage_tells_faults before after BadScript report h = absurd h
+usage_tells_faults before after TooLong report h = absurd h
+usage_tells_faults before after ReadFault report h = absurd h
+usage_tells_faults before after NoMemory report h = absurd h
+usage_tells_faults before after Rejected report h = absurd h

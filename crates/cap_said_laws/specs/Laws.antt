@@ -2,6 +2,9 @@
 use Rattle.std.specs.Prelude.{◌≡◌, ◌↔◌, ℕ, ◌-◌, ◌^◌, ◌<◌, List}
 use Rattle.cap_check.specs.Unbuilt.{CheckedPart}
 use Rattle.cap_registered.specs.Certificates.{AreCertificates}
+use Rattle.cap_data.specs.declared.data.ObjData.{ObjData}
+use Rattle.cap_data.specs.declared.data.MorData.{MorData}
+use Rattle.cap_report.specs.declared.report.Report.{Report}
 use Rattle.cap_top.specs.declared.judging.Said.{Said}
 use Rattle.cap_top.specs.declared.outcome.Status.{Status}
 use Rattle.cap_top.specs.declared.outcome.Status.TheVariants.{ReadFault, WriteFault}
@@ -12,9 +15,10 @@ use Rattle.cap_top.specs.Run.{Outside}
 abbrev pub OneCertificates : Type 0
 OneCertificates = (parts : List CheckedPart) (text other : List ℕ) → AreCertificates parts text → AreCertificates parts other → text ≡ other
 
--- a command says one thing at most of the bytes of an input, with one text
+-- a command says one thing at most of the bytes of an input, with one text and one report
 abbrev pub SaysOneThing : Judging → Type 0
-SaysOneThing judged = (bytes : List ℕ) (said other : Said) (text words : List ℕ) → judged bytes said text → judged bytes other words → (said ≡ other) × (text ≡ words)
+SaysOneThing judged =
+    (bytes : List ℕ) (said other : Said) (text words : List ℕ) (r s : Report ObjData MorData) → judged bytes said text r → judged bytes other words s → (said ≡ other) × (text ≡ words) × (r ≡ s)
 
 -- as long as the counts are below their last value: the status is ReadFault exactly where the source's count of faults rose, and WriteFault exactly where the sink's did
 pub record FaultsAreTold (before after : Outside) (status : Status) : Type 0 where
@@ -22,5 +26,5 @@ pub record FaultsAreTold (before after : Outside) (status : Status) : Type 0 whe
   pub writing : after.write_faults < 2 ^ 64 - 1 → (status ≡ WriteFault) ↔ (before.write_faults < after.write_faults)
 
 -- the status of each such run tells which faults came
-abbrev pub TellsFaults : (Outside → Outside → Status → Type 0) → Type 0
-TellsFaults is_run = (before after : Outside) (status : Status) → is_run before after status → FaultsAreTold before after status
+abbrev pub TellsFaults : (Outside → Outside → Status → Report ObjData MorData → Type 0) → Type 0
+TellsFaults is_run = (before after : Outside) (status : Status) (report : Report ObjData MorData) → is_run before after status report → FaultsAreTold before after status

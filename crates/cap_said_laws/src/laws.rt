@@ -1,5 +1,5 @@
 // The laws of what is said of an input, and of how a run ends, each a call that does nothing.
-ghost use Rattle.cap_top.specs.Judged.{IsPlainJudged, IsPlanJudged, IsCheckJudged};
+ghost use Rattle.cap_top.specs.Judged.{IsPlanJudged, IsCheckJudged};
 ghost use Rattle.cap_top.specs.Run.{IsPlainRun, IsPlanRun, IsCheckRun, IsUsageRun};
 ghost use Rattle.cap_said_laws.specs.Laws.{OneCertificates, SaysOneThing, TellsFaults};
 
@@ -8,17 +8,12 @@ pub fn law_certificates_are_determined()
     ensures { OneCertificates }
 {}
 
-/// What `cap plan` says of an input, and its text, are determined by the input.
+/// What `cap plan` says of an input, its text and its report are determined by the input.
 pub fn law_plan_says_one_thing()
     ensures { SaysOneThing IsPlanJudged }
 {}
 
-/// What `cap plain` says of an input, and its text, are determined by the input.
-pub fn law_plain_says_one_thing()
-    ensures { SaysOneThing IsPlainJudged }
-{}
-
-/// What `cap check` says of an input, and its text, are determined by the input.
+/// What `cap check` says of an input, its text and its report are determined by the input.
 pub fn law_check_says_one_thing()
     ensures { SaysOneThing IsCheckJudged }
 {}

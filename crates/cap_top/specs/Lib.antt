@@ -1,4 +1,5 @@
 pub mod Status
+pub mod Reports
 pub mod Refusals
 pub mod Judged
 pub mod Run

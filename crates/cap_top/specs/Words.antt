@@ -1,5 +1,8 @@
 -- The lists of words that the program knows.
 use Rattle.std.specs.Prelude.{◌≡◌, List, [], ◌∷◌, codes, ℕ}
+use Rattle.cap_data.specs.declared.data.ObjData.{ObjData}
+use Rattle.cap_data.specs.declared.data.MorData.{MorData}
+use Rattle.cap_report.specs.declared.report.Report.{Report}
 use Rattle.cap_top.specs.declared.outcome.Status.{Status}
 use Rattle.cap_top.specs.Run.{Outside, IsPlainRun, IsPlanRun, IsCheckRun, IsUsageRun}
 
@@ -16,8 +19,8 @@ abbrev pub AskForCheck : List (List ℕ) → Type 0
 AskForCheck words = words ≡ codes "check" ∷ []
 
 -- what the program does with these words
-pub record IsProgramRun (words : List (List ℕ)) (before after : Outside) (status : Status) : Type 0 where
-  pub plain : AskForPlain words → IsPlainRun before after status
-  pub plan : AskForPlan words → IsPlanRun before after status
-  pub check : AskForCheck words → IsCheckRun before after status
-  pub usage : (AskForPlain words → ⊥) → (AskForPlan words → ⊥) → (AskForCheck words → ⊥) → IsUsageRun before after status
+pub record IsProgramRun (words : List (List ℕ)) (before after : Outside) (status : Status) (report : Report ObjData MorData) : Type 0 where
+  pub plain : AskForPlain words → IsPlainRun before after status report
+  pub plan : AskForPlan words → IsPlanRun before after status report
+  pub check : AskForCheck words → IsCheckRun before after status report
+  pub usage : (AskForPlain words → ⊥) → (AskForPlan words → ⊥) → (AskForCheck words → ⊥) → IsUsageRun before after status report

@@ -1,7 +1,6 @@
 // What a command says of a whole input.
-ghost use Rattle.std.specs.Prelude.{ℕ, ◌<◌, ◌-◌, ◌^◌, IfOk, List, length};
-
-use std::alloc::{AllocError, Global};
+use cap_data::{MorData, ObjData};
+use cap_report::Report;
 
 /// What a command says of its whole input.
 #[derive(Debug, Clone, Copy, PartialEq, Eq)]
@@ -14,15 +13,10 @@ pub enum Said {
     Refused,
 }
 
-/// A command that reads its input whole and says something of it, with a text.
-pub trait Judge {
-    ghost use Rattle.cap_top.specs.declared.judging.Said.{Said};
-
-    /// What is said of bytes, and with which text.
-    ghost says: { List ℕ → Said → List ℕ → Type 0 };
-
-    /// What is said of these bytes, with its text, unless memory runs out.
-    fn judge(&self, alloc: Global, bytes: &[u8]) -> Result<(Said, Vec<u8>), AllocError>
-        requires { length bytes.now < 2 ^ 32 - 1 }
-        ensures { IfOk result (λ answer. says bytes.now answer.0 answer.1.items) };
+/// What a command says of its whole input, its text, and the report of the script that it ran.
+#[derive(Drop)]
+pub struct Verdict {
+    pub said: Said,
+    pub text: Vec<u8>,
+    pub report: Report<ObjData, MorData>,
 }

@@ -11,8 +11,8 @@ mod refusals;
 mod running;
 
 pub use check::cap_check;
-pub use judging::{Judge, Said};
-pub use outcome::{Outcome, Status};
+pub use judging::{Said, Verdict};
+pub use outcome::{Outcome, Status, no_report};
 pub use plain::cap_plain;
 pub use plan::cap_plan;
 pub use program::cap;

@@ -1,5 +1,11 @@
 // How a run ends.
 ghost use Rattle.std.specs.Prelude.{◌≡◌};
+ghost use Rattle.cap_top.specs.Reports.{no_report};
+
+use cap_data::{MorData, ObjData};
+use cap_names::Items;
+use cap_report::Report;
+use std::alloc::Global;
 
 /// How a run of the program ends. The exit status of the program is its number, from 0 in this order.
 #[derive(Debug, Clone, Copy, PartialEq, Eq)]
@@ -33,8 +39,20 @@ impl Status {
     }
 }
 
-/// What a run of the program answers.
-#[derive(Debug, Clone, Copy, PartialEq, Eq)]
+/// What a run of the program answers: how it ended, and the report of the script that it ran, which is empty where it ran none.
+#[derive(Drop)]
 pub struct Outcome {
     pub status: Status,
+    pub report: Report<ObjData, MorData>,
+}
+
+/// The report where no script was run.
+pub fn no_report(alloc: Global) -> Report<ObjData, MorData>
+    ensures { result ≡ no_report }
+{
+    Report {
+        histories: Items::new(Vec::new(alloc)),
+        traces: Items::new(Vec::new(alloc)),
+        plans: Items::new(Vec::new(alloc)),
+    }
 }

@@ -1,50 +1,50 @@
 // `cap plain`: a script from standard input, and what it prints.
-ghost use Rattle.std.specs.Prelude.{◌≡◌, List, ℕ};
-ghost use Rattle.cap_top.specs.Refusals.{not_yet};
+ghost use Rattle.std.specs.Prelude.{◌≡◌, ◌<◌, ◌-◌, ◌^◌, [], IfOk, List, ℕ, length};
+ghost use Rattle.cap_check.specs.Unbuilt.{unbuilt};
+ghost use Rattle.cap_session.specs.Reports.{IsPlainReport};
+ghost use Rattle.cap_top_text.specs.Text.{report_text};
+ghost use Rattle.cap_top.specs.declared.judging.Said.TheVariants.{Answered};
 ghost use Rattle.cap_top.specs.Judged.{IsPlainJudged};
 ghost use Rattle.cap_top.specs.Run.{Outside, IsPlainRun};
 
-use crate::judging::{Judge, Said};
+use crate::judging::{Said, Verdict};
 use crate::outcome::Outcome;
-use crate::refusals::{read_script, refusal_text};
-use crate::running::run;
-use cap_check::CheckFault;
-use cap_form::answer;
-use cap_io::{Gate, Sink, Source};
-use cap_names::{BadScript, Reason};
-use std::alloc::{AllocError, Global};
+use crate::refusals::{read_built, refused};
+use crate::running::{BYTE_LIMIT, tell, unread};
+use cap_check::{CheckFault, Checked};
+use cap_io::{Gate, Sink, Source, read_all};
+use cap_names::NoMemory;
+use cap_session::run_plain;
+use cap_top_text::report_text;
+use std::alloc::Global;
 
-/// What is told of a script without faults that can't be run yet.
-fn not_yet() -> BadScript
-    ensures { result ≡ not_yet }
+/// Runs a script without faults whose kinds are built: its report, and the text of it.
+fn answered<G: Gate>(alloc: Global, script: &Checked, gate: &G) -> Result<Verdict, NoMemory>
+    requires { unbuilt script.now.prelude ≡ [] }
+    ensures said { IfOk result (λ v. v.said ≡ Answered) }
+    ensures ran { IfOk result (λ v. IsPlainReport script.now v.report) }
+    ensures text { IfOk result (λ v. v.text.items ≡ report_text script.now v.report) }
 {
-    BadScript {
-        line: 1,
-        column: 1,
-        reason: Reason::Limit,
+    let report = run_plain(alloc, script, gate)?;
+    let text = report_text(alloc, script.prelude(), script.sessions(), &report)?;
+    let said = Said::Answered;
+    Ok(Verdict { said, text, report })
+}
+
+/// What `plain` says of an input.
+fn judged<G: Gate>(alloc: Global, bytes: &[u8], gate: &G) -> Result<Verdict, NoMemory>
+    requires { length bytes.now < 2 ^ 32 - 1 }
+    ensures { IfOk result (λ v. IsPlainJudged bytes.now v.said v.text.items v.report) }
+{
+    match read_built(alloc, bytes) {
+        Ok(script) => answered(alloc, &script, gate),
+        Err(CheckFault::Bad(bad)) => refused(alloc, bad),
+        Err(CheckFault::NoMemory) => Err(NoMemory),
     }
 }
 
-/// The command `plain`, over the first form of script.
-struct Plain;
-
-impl Judge for Plain {
-    ghost says = { IsPlainJudged };
-
-    fn judge(&self, alloc: Global, bytes: &[u8]) -> Result<(Said, Vec<u8>), AllocError> {
-        match read_script(alloc, bytes) {
-            Ok(_script) => match answer(alloc, bytes)? {
-                Some(text) => Ok((Said::Answered, text.into_bytes())),
-                None => Ok((Said::Refused, refusal_text(alloc, not_yet())?)),
-            },
-            Err(CheckFault::Bad(bad)) => Ok((Said::Refused, refusal_text(alloc, bad)?)),
-            Err(CheckFault::NoMemory) => Err(AllocError),
-        }
-    }
-}
-
-/// Reads a script, and writes what it prints, or why it is refused. It waits for nobody and always returns.
-/// The gate is handed in and not passed yet.
+/// Reads a script, runs it, and writes what it prints, or why it is refused. Its sessions run one after another and pass the gate:
+/// before each command, before each event of a category, and behind each miss. It waits for nobody and always returns.
 pub fn cap_plain<S: Source, K: Sink, G: Gate>(
     alloc: Global,
     source: &mut S,
@@ -54,8 +54,10 @@ pub fn cap_plain<S: Source, K: Sink, G: Gate>(
     ensures { IsPlainRun
         (record { left = S.left source.old; read_faults = S.faults source.old; written = K.written sink.old; write_faults = K.faults sink.old })
         (record { left = S.left source.new; read_faults = S.faults source.new; written = K.written sink.new; write_faults = K.faults sink.new })
-        result.status }
+        result.status result.report }
 {
-    let _ = gate;
-    run(alloc, &Plain, source, sink)
+    match read_all(alloc, source, BYTE_LIMIT) {
+        Ok(bytes) => tell(alloc, sink, judged(alloc, &bytes, gate)),
+        Err(end) => unread(alloc, sink, end),
+    }
 }

@@ -1,18 +1,18 @@
 // `cap plan`: a script from standard input, and the certificates of its categories.
-ghost use Rattle.std.specs.Prelude.{◌≡◌, IfOk, List, ℕ};
+ghost use Rattle.std.specs.Prelude.{◌≡◌, ◌<◌, ◌-◌, ◌^◌, IfOk, List, ℕ, length};
 ghost use Rattle.cap_top.specs.Judged.{AreCertified, IsPlanJudged};
 ghost use Rattle.cap_top.specs.Run.{Outside, IsPlanRun};
 
-use crate::judging::{Judge, Said};
-use crate::outcome::Outcome;
-use crate::refusals::{read_script, refusal_text};
-use crate::running::run;
-use cap_check::{CheckFault, Checked, built};
-use cap_io::{Sink, Source};
+use crate::judging::{Said, Verdict};
+use crate::outcome::{Outcome, no_report};
+use crate::refusals::{read_built, refused};
+use crate::running::{BYTE_LIMIT, tell, unread};
+use cap_check::{CheckFault, Checked};
+use cap_io::{Sink, Source, read_all};
 use cap_names::NoMemory;
 use cap_plan_laws::law_certificates_are_accepted;
 use cap_registered::certificates;
-use std::alloc::{AllocError, Global};
+use std::alloc::Global;
 
 /// The certificates of a script's categories, which are accepted.
 fn certified(alloc: Global, script: &Checked) -> Result<Vec<u8>, NoMemory>
@@ -23,25 +23,19 @@ fn certified(alloc: Global, script: &Checked) -> Result<Vec<u8>, NoMemory>
     certificates(alloc, script)
 }
 
-/// The command `plan`.
-struct Plan;
-
-impl Judge for Plan {
-    ghost says = { IsPlanJudged };
-
-    fn judge(&self, alloc: Global, bytes: &[u8]) -> Result<(Said, Vec<u8>), AllocError> {
-        let script = match read_script(alloc, bytes) {
-            Ok(script) => script,
-            Err(CheckFault::Bad(bad)) => return Ok((Said::Refused, refusal_text(alloc, bad)?)),
-            Err(CheckFault::NoMemory) => return Err(AllocError),
-        };
-        match built(&script) {
-            Ok(()) => match certified(alloc, &script) {
-                Ok(text) => Ok((Said::Answered, text)),
-                Err(_) => Err(AllocError),
-            },
-            Err(bad) => Ok((Said::Refused, refusal_text(alloc, bad)?)),
-        }
+/// What `plan` says of an input.
+fn judged(alloc: Global, bytes: &[u8]) -> Result<Verdict, NoMemory>
+    requires { length bytes.now < 2 ^ 32 - 1 }
+    ensures { IfOk result (λ v. IsPlanJudged bytes.now v.said v.text.items v.report) }
+{
+    match read_built(alloc, bytes) {
+        Ok(script) => Ok(Verdict {
+            said: Said::Answered,
+            text: certified(alloc, &script)?,
+            report: no_report(alloc),
+        }),
+        Err(CheckFault::Bad(bad)) => refused(alloc, bad),
+        Err(CheckFault::NoMemory) => Err(NoMemory),
     }
 }
 
@@ -51,7 +45,10 @@ pub fn cap_plan<S: Source, K: Sink>(alloc: Global, source: &mut S, sink: &mut K)
     ensures { IsPlanRun
         (record { left = S.left source.old; read_faults = S.faults source.old; written = K.written sink.old; write_faults = K.faults sink.old })
         (record { left = S.left source.new; read_faults = S.faults source.new; written = K.written sink.new; write_faults = K.faults sink.new })
-        result.status }
+        result.status result.report }
 {
-    run(alloc, &Plan, source, sink)
+    match read_all(alloc, source, BYTE_LIMIT) {
+        Ok(bytes) => tell(alloc, sink, judged(alloc, &bytes)),
+        Err(end) => unread(alloc, sink, end),
+    }
 }

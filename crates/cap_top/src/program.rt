@@ -4,7 +4,7 @@ ghost use Rattle.cap_top.specs.Words.{IsProgramRun};
 ghost use Rattle.cap_top.specs.Run.{Outside};
 
 use crate::check::cap_check;
-use crate::outcome::{Outcome, Status};
+use crate::outcome::{Outcome, Status, no_report};
 use crate::plain::cap_plain;
 use crate::plan::cap_plan;
 use crate::running::say;
@@ -35,7 +35,7 @@ pub fn cap<S: Source, K: Sink, G: Gate>(
     ensures { IsProgramRun (map string_bytes words.now)
         (record { left = S.left source.old; read_faults = S.faults source.old; written = K.written sink.old; write_faults = K.faults sink.old })
         (record { left = S.left source.new; read_faults = S.faults source.new; written = K.written sink.new; write_faults = K.faults sink.new })
-        result.status }
+        result.status result.report }
 {
     if ask_for("plain", words) {
         cap_plain(alloc, source, sink, gate)
@@ -45,6 +45,9 @@ pub fn cap<S: Source, K: Sink, G: Gate>(
         cap_check(alloc, source, sink)
     } else {
         let status = say(sink, Status::Usage, USAGE);
-        Outcome { status }
+        Outcome {
+            status,
+            report: no_report(alloc),
+        }
     }
 }

@@ -1,14 +1,17 @@
-// Reading an input whole, judging it, and writing what is said.
-ghost use Rattle.std.specs.Prelude.{◌≡◌};
-ghost use Rattle.cap_top.specs.Run.{Outside, IsRun, IsSaid, status_of};
+// How a run ends whose input was read, and one whose input was not.
+ghost use Rattle.std.specs.Prelude.{◌≡◌, MatchResult};
+ghost use Rattle.cap_top.specs.Reports.{no_report};
+ghost use Rattle.cap_top.specs.Run.{IsSaid, IsSilent, IsUnread, status_of};
+ghost use Rattle.cap_top.specs.declared.outcome.Status.TheVariants as status;
 
-use crate::judging::{Judge, Said};
-use crate::outcome::{Outcome, Status};
-use cap_io::{ReadEnd, Sink, Source, read_all, write_all};
+use crate::judging::{Said, Verdict};
+use crate::outcome::{Outcome, Status, no_report};
+use cap_io::{ReadEnd, Sink, write_all};
+use cap_names::NoMemory;
 use std::alloc::Global;
 
-/// How many bytes a script may have.
-const BYTE_LIMIT: usize = 1_048_576;
+/// How many bytes an input may have.
+pub const BYTE_LIMIT: usize = 1_048_576;
 
 /// Writes a text, and answers the status, or WriteFault where the sink fails.
 pub fn say<K: Sink>(sink: &mut K, status: Status, text: &[u8]) -> Status
@@ -31,26 +34,29 @@ fn status_of(said: Said) -> Status
     }
 }
 
-/// Reads the input to its end, and writes what is said of it. It waits for nobody and always returns.
-pub fn run<J: Judge, S: Source, K: Sink>(
-    alloc: Global,
-    judge: &J,
-    source: &mut S,
-    sink: &mut K,
-) -> Outcome
-    ensures { IsRun J.says
-        (record { left = S.left source.old; read_faults = S.faults source.old; written = K.written sink.old; write_faults = K.faults sink.old })
-        (record { left = S.left source.new; read_faults = S.faults source.new; written = K.written sink.new; write_faults = K.faults sink.new })
-        result.status }
+/// Writes what is said of an input that was read whole, unless memory ran out meanwhile.
+pub fn tell<K: Sink>(alloc: Global, sink: &mut K, judged: Result<Verdict, NoMemory>) -> Outcome
+    ensures { MatchResult judged
+        (λ v. IsSaid (K.written sink.old) (K.faults sink.old) (K.written sink.new) (K.faults sink.new) (status_of v.said) v.text.items result.status × (result.report ≡ v.report))
+        (λ _. IsSilent (K.written sink.old) (K.faults sink.old) (K.written sink.new) (K.faults sink.new) status.NoMemory result.status × (result.report ≡ no_report)) }
 {
-    let status = match read_all(alloc, source, BYTE_LIMIT) {
-        Ok(bytes) => match judge.judge(alloc, &bytes) {
-            Ok((said, text)) => say(sink, status_of(said), &text),
-            Err(_) => Status::NoMemory,
-        },
-        Err(ReadEnd::Fault) => Status::ReadFault,
-        Err(ReadEnd::TooLong) => say(sink, Status::TooLong, b"too long\n"),
-        Err(ReadEnd::NoMemory) => Status::NoMemory,
+    let (status, report) = match judged {
+        Ok(Verdict { said, text, report }) => (say(sink, status_of(said), &text), report),
+        Err(_) => (Status::NoMemory, no_report(alloc)),
     };
-    Outcome { status }
+    Outcome { status, report }
+}
+
+/// The end of a run whose input was not read to its end: that it is too long is written, and else nothing.
+pub fn unread<K: Sink>(alloc: Global, sink: &mut K, end: ReadEnd) -> Outcome
+    ensures told { IsUnread (K.written sink.old) (K.faults sink.old) (K.written sink.new) (K.faults sink.new) end result.status }
+    ensures silent { result.report ≡ no_report }
+{
+    let status = match end {
+        ReadEnd::Fault => Status::ReadFault,
+        ReadEnd::TooLong => say(sink, Status::TooLong, b"too long\n"),
+        ReadEnd::NoMemory => Status::NoMemory,
+    };
+    let report = no_report(alloc);
+    Outcome { status, report }
 }

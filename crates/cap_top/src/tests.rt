@@ -1,5 +1,9 @@
+mod scripts;
+
 use super::*;
+use cap_data::{MorData, ObjData};
 use cap_io::{MemSink, MemSource, OpenGate, SureSink, SureSource};
+use cap_report::Report;
 use std::alloc::Global;
 use std::process::Abort;
 use std::test::Fail;
@@ -10,6 +14,15 @@ const EXAMPLE: &str =
 
 const EXAMPLE_OUTPUT: &str =
     "V: vec 5\nV registers Kernel 20\nV final\nV#1: 2\na = V#1\nV#2: 2\nb = V#2\nf = V#1 -> V#2 [1 2; 2 4]\nV#3: 1\nk = V#3 -> V#1 [1 2]\n";
+
+// How many histories a report has, and how many answers each of its traces.
+fn is_of_size(report: &Report<ObjData, MorData>, histories: usize, answers: &[usize]) -> bool {
+    let mut same = report.histories.len() == histories && report.traces.len() == answers.len();
+    for (trace, wanted) in report.traces.as_slice().iter().zip(answers) {
+        same = same && trace.done.len() == *wanted;
+    }
+    same
+}
 
 // `cap plain` on an input answers this status and writes this text, and so does `cap` on the word `plain`.
 fn answers(
@@ -57,59 +70,77 @@ fn kernel_of_a_zero_matrix(rt: HostRuntime) -> Result<(), Fail> {
 }
 
 #[test]
-fn other_texts_are_refused_with_their_first_fault(rt: HostRuntime) -> Result<(), Fail> {
+fn short_scripts_are_run(rt: HostRuntime) -> Result<(), Fail> {
     let head = "category V vec 5\nregister V Kernel 20\nfinalise V\n";
-    let not_yet = "bad script: line 1 column 1 limit\n";
-    let wrong = [
-        ("", not_yet),
-        ("object V a = 2\n", not_yet),
+    let lines = "V: vec 5\nV registers Kernel 20\nV final\n";
+    let right = [
+        ("", ""),
+        ("object V a = 2\n", "V#1: 2\na = V#1\n"),
         (
             "object V a = 2\nobject V b = 2\nlet f = V a -> b [1 2; 2 5]\nlet k = V Kernel f\n",
-            not_yet,
+            "V#1: 2\na = V#1\nV#2: 2\nb = V#2\nf = V#1 -> V#2 [1 2; 2 0]\nV#3: 0\nk = V#3 -> V#1 []\n",
         ),
         (
-            "object V a = 02\nobject V b = 2\nlet f = V a -> b [1 2; 2 4]\nlet k = V Kernel f\n",
-            not_yet,
-        ),
-        (
-            "object V a = 2\nobject V b = 2\nlet f = V a -> b [1 2; 2 4]\nlet k = V Kernel f",
-            not_yet,
-        ),
-        (
-            "object V a = 65\nobject V b = 0\nlet f = V a -> b []\nlet k = V Kernel f\n",
-            not_yet,
-        ),
-        ("category V vec 5\n", "bad script: line 4 column 10 taken\n"),
-        (
-            "object V a = 2049\n",
-            "bad script: line 4 column 14 limit\n",
-        ),
-        (
-            "object V a = 2\nlet k = V Kernel a\n",
-            "bad script: line 5 column 18 sort\n",
-        ),
-        (
-            "let k = V Kernel f\n",
-            "bad script: line 4 column 18 known\n",
+            "object V a = 02\nobject V b = 0\nlet f = V a -> b []",
+            "V#1: 2\na = V#1\nV#2: 0\nb = V#2\nf = V#1 -> V#2 []\n",
         ),
     ];
-    for (rest, line) in wrong {
+    for (rest, text) in right {
         let alloc = rt.alloc();
         let input = format!(in alloc; "{head}{rest}")?;
-        answers(&rt, alloc, input.as_str(), Status::BadScript, line)?;
+        let output = format!(in alloc; "{lines}{text}")?;
+        answers(&rt, alloc, input.as_str(), Status::Ok, output.as_str())?;
+    }
+    answers(&rt, rt.alloc(), "", Status::Ok, "")?;
+    answers(
+        &rt,
+        rt.alloc(),
+        "category V vec 251\n",
+        Status::Ok,
+        "V: vec 251\n",
+    )
+}
+
+#[test]
+fn the_examples_are_run(rt: HostRuntime) -> Result<(), Fail> {
+    let examples = [
+        scripts::ENDS_THAT_DO_NOT_MEET,
+        scripts::HOMOLOGY_OF_A_COMPLEX,
+        scripts::IMAGES,
+        scripts::KERNELS_AND_COKERNELS,
+        scripts::LIFTS_THAT_ARE_NONE,
+        scripts::MATRICES_PAST_THE_LIMITS,
+        scripts::NAMES_IN_TWO_SESSIONS,
+        scripts::OPERATION_THAT_IS_MISSING,
+        scripts::PULLBACK_BY_ITS_RULE,
+        scripts::SESSIONS_THAT_SHARE_A_CACHE,
+    ];
+    for (input, output) in examples {
+        answers(&rt, rt.alloc(), input, Status::Ok, output)?;
     }
     Ok(())
 }
 
 #[test]
-fn bad_tokens_grammar_and_primes_are_told_with_their_place(rt: HostRuntime) -> Result<(), Fail> {
+fn texts_with_a_fault_or_a_block_are_refused(rt: HostRuntime) -> Result<(), Fail> {
     let wrong = [
-        ("", "bad script: line 1 column 1 limit\n"),
-        ("category V vec 9\n", "bad script: line 1 column 16 prime\n"),
         (
-            "category V vec 251\n",
-            "bad script: line 1 column 1 limit\n",
+            "category V vec 5\ncategory V vec 5\n",
+            "bad script: line 2 column 10 taken\n",
         ),
+        (
+            "category V vec 5\nobject V a = 2049\n",
+            "bad script: line 2 column 14 limit\n",
+        ),
+        (
+            "category V vec 5\nobject V a = 2\nlet k = V Kernel a\n",
+            "bad script: line 3 column 18 sort\n",
+        ),
+        (
+            "category V vec 5\nlet k = V Kernel f\n",
+            "bad script: line 2 column 18 known\n",
+        ),
+        ("category V vec 9\n", "bad script: line 1 column 16 prime\n"),
         (
             "category V vec 5\nobject V a ? 2\n",
             "bad script: line 2 column 12 token\n",
@@ -117,6 +148,10 @@ fn bad_tokens_grammar_and_primes_are_told_with_their_place(rt: HostRuntime) -> R
         (
             "category V vec 5\nobject V a = 2\nlet f = V a -> a [1 2",
             "bad script: line 3 column 22 syntax\n",
+        ),
+        (
+            "category V vec 5\n\ntable T prime 5\nobjects A\nbasis e A A\nunit A = 1 e\nend\ncategory W add T\n",
+            "bad script: line 3 column 1 limit\n",
         ),
     ];
     for (input, line) in wrong {
@@ -132,6 +167,7 @@ fn no_words_give_the_usage_line(rt: HostRuntime) -> Result<(), Fail> {
     let words = Vec::new(rt.alloc());
     let outcome = cap(rt.alloc(), &words, &mut source, &mut sink, &OpenGate);
     assert_eq!(rt; outcome.status.number(), 2);
+    assert!(rt; is_of_size(&outcome.report, 0, &[]));
     assert!(rt;
         sink.bytes() == b"usage: cap run | run --log | plain | plan | check | demo N\n".as_slice()
     );
@@ -161,6 +197,7 @@ fn a_sink_that_fails_has_the_front_of_the_text(rt: HostRuntime) -> Result<(), Fa
     let outcome = cap_plain(rt.alloc(), &mut source, &mut sink, &OpenGate);
     assert_eq!(rt; outcome.status.number(), 4);
     assert!(rt; sink.bytes() == b"V: ve".as_slice());
+    assert!(rt; is_of_size(&outcome.report, 1, &[7]));
     Ok(())
 }
 
@@ -185,6 +222,10 @@ const CERTIFICATE_ENDS: &str =
 // The nine registrations of that certificate.
 const REGISTRATIONS: &str =
     "category V vec 5\nregister V Identity\nregister V Compose\nregister V Zero\nregister V Add\nregister V Scale\nregister V IsCongruent\nregister V DirectSum\nregister V Kernel\nregister V Lift\nfinalise V\n";
+
+// What `plain` writes for these.
+const REGISTERED: &str =
+    "V: vec 5\nV registers Identity 1\nV registers Compose 1\nV registers Zero 1\nV registers Add 1\nV registers Scale 1\nV registers IsCongruent 2\nV registers DirectSum 5\nV registers Kernel 20\nV registers Lift 20\nV final\n";
 
 // What a word of the program answers to an input: this status and this text.
 fn word_answers(
@@ -215,7 +256,10 @@ fn plans_are_printed_as_certificates_that_are_accepted(rt: HostRuntime) -> Resul
     let certificate = whole.as_str();
     word_answers(&rt, alloc, "plan", REGISTRATIONS, Status::Ok, certificate)?;
     word_answers(&rt, alloc, "plan", script.as_str(), Status::Ok, certificate)?;
-    word_answers(&rt, alloc, "check", certificate, Status::Ok, "accepted\n")
+    word_answers(&rt, alloc, "check", certificate, Status::Ok, "accepted\n")?;
+    let shown = format!(in alloc; "{REGISTRATIONS}plan V\n")?;
+    let text = format!(in alloc; "{REGISTERED}{certificate}")?;
+    answers(&rt, alloc, shown.as_str(), Status::Ok, text.as_str())
 }
 
 #[test]

@@ -1,5 +1,0 @@
-mod Joined
-mod Pushed
-pub mod Scanned
-pub mod Values
-mod Judged
