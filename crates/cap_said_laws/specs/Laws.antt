@@ -8,7 +8,8 @@ use Rattle.cap_report.specs.declared.report.Report.{Report}
 use Rattle.cap_top.specs.declared.judging.Said.{Said}
 use Rattle.cap_top.specs.declared.outcome.Status.{Status}
 use Rattle.cap_top.specs.declared.outcome.Status.TheVariants.{ReadFault, WriteFault}
-use Rattle.cap_top.specs.Judged.{Judging}
+use Rattle.cap_one_report.specs.Sizes.{without_sizes, HasNoSizes}
+use Rattle.cap_top.specs.Judged.{Judging, IsPlainJudged}
 use Rattle.cap_top.specs.Run.{Outside}
 
 -- the certificates of a prelude are one text at most
@@ -19,6 +20,12 @@ OneCertificates = (parts : List CheckedPart) (text other : List ℕ) → AreCert
 abbrev pub SaysOneThing : Judging → Type 0
 SaysOneThing judged =
     (bytes : List ℕ) (said other : Said) (text words : List ℕ) (r s : Report ObjData MorData) → judged bytes said text r → judged bytes other words s → (said ≡ other) × (text ≡ words) × (r ≡ s)
+
+-- `cap plain` says one thing at most of the bytes of an input, with one report but for the sizes that refusals of matrices past the limits name; where none names a size, with one report and one text
+abbrev pub PlainSaysOneThing : Type 0
+PlainSaysOneThing =
+    (bytes : List ℕ) (said other : Said) (text words : List ℕ) (r s : Report ObjData MorData) → IsPlainJudged bytes said text r → IsPlainJudged bytes other words s
+    → (said ≡ other) × (without_sizes r ≡ without_sizes s) × (HasNoSizes r → HasNoSizes s → (text ≡ words) × (r ≡ s))
 
 -- as long as the counts are below their last value: the status is ReadFault exactly where the source's count of faults rose, and WriteFault exactly where the sink's did
 pub record FaultsAreTold (before after : Outside) (status : Status) : Type 0 where

@@ -1,7 +1,7 @@
 // The laws of what is said of an input, and of how a run ends, each a call that does nothing.
 ghost use Rattle.cap_top.specs.Judged.{IsPlanJudged, IsCheckJudged};
 ghost use Rattle.cap_top.specs.Run.{IsPlainRun, IsPlanRun, IsCheckRun, IsUsageRun};
-ghost use Rattle.cap_said_laws.specs.Laws.{OneCertificates, SaysOneThing, TellsFaults};
+ghost use Rattle.cap_said_laws.specs.Laws.{OneCertificates, SaysOneThing, PlainSaysOneThing, TellsFaults};
 
 /// The certificates of a prelude are one text at most.
 pub fn law_certificates_are_determined()
@@ -11,6 +11,12 @@ pub fn law_certificates_are_determined()
 /// What `cap plan` says of an input, its text and its report are determined by the input.
 pub fn law_plan_says_one_thing()
     ensures { SaysOneThing IsPlanJudged }
+{}
+
+/// What `cap plain` says of an input and its report are determined by the input, but for the sizes that refusals of matrices
+/// past the limits name; where no refusal names one, so is every byte that it writes.
+pub fn law_plain_says_one_thing()
+    ensures { PlainSaysOneThing }
 {}
 
 /// What `cap check` says of an input, its text and its report are determined by the input.
