@@ -8,6 +8,7 @@ use std::sync::atomic::{AtomicU32, Ordering};
 use std::test::Fail;
 
 // How often each kind of place was passed.
+#[derive(Drop)]
 struct Counts {
     commands: AtomicU32,
     held: AtomicU32,
