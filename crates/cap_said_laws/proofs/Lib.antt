@@ -6,3 +6,4 @@ pub mod Plain
 pub mod Judgements
 pub mod Checks
 pub mod Statuses
+pub mod Completeness

@@ -1,16 +1,19 @@
 -- The laws of what is said of an input, and of how a run ends.
-use Rattle.std.specs.Prelude.{◌≡◌, ◌↔◌, ℕ, ◌-◌, ◌^◌, ◌<◌, List}
-use Rattle.cap_check.specs.Unbuilt.{CheckedPart}
+use Rattle.std.specs.Prelude.{◌≡◌, ◌↔◌, ◌⊎◌, ℕ, ◌-◌, ◌^◌, ◌<◌, ◌≤◌, List, [], length, Some}
+use Rattle.cap_io.specs.Faults.{HasRisen}
+use Rattle.cap_checked.specs.declared.tree.Checked.{Checked}
+use Rattle.cap_check.specs.Unbuilt.{CheckedPart, unbuilt}
 use Rattle.cap_registered.specs.Certificates.{AreCertificates}
 use Rattle.cap_data.specs.declared.data.ObjData.{ObjData}
 use Rattle.cap_data.specs.declared.data.MorData.{MorData}
 use Rattle.cap_report.specs.declared.report.Report.{Report}
 use Rattle.cap_top.specs.declared.judging.Said.{Said}
 use Rattle.cap_top.specs.declared.outcome.Status.{Status}
-use Rattle.cap_top.specs.declared.outcome.Status.TheVariants.{ReadFault, WriteFault}
+use Rattle.cap_top.specs.declared.outcome.Status.TheVariants.{Ok, ReadFault, WriteFault, NoMemory}
 use Rattle.cap_one_report.specs.Sizes.{without_sizes, HasNoSizes}
 use Rattle.cap_top.specs.Judged.{Judging, IsPlainJudged}
-use Rattle.cap_top.specs.Run.{Outside}
+use Rattle.cap_top.specs.Refusals.{IsSoundText}
+use Rattle.cap_top.specs.Run.{Outside, byte_limit}
 
 -- the certificates of a prelude are one text at most
 abbrev pub OneCertificates : Type 0
@@ -35,3 +38,21 @@ pub record FaultsAreTold (before after : Outside) (status : Status) : Type 0 whe
 -- the status of each such run tells which faults came
 abbrev pub TellsFaults : (Outside → Outside → Status → Report ObjData MorData → Type 0) → Type 0
 TellsFaults is_run = (before after : Outside) (status : Status) (report : Report ObjData MorData) → is_run before after status report → FaultsAreTold before after status
+
+-- the source tells its bytes, which are within the limit, and no call of source or sink failed
+pub record TellsAndWorks (before after : Outside) (bytes : List ℕ) : Type 0 where
+  pub told : before.left ≡ Some bytes
+  pub within : length bytes ≤ byte_limit
+  pub reads : HasRisen before.read_faults after.read_faults → ⊥
+  pub writes : HasRisen before.write_faults after.write_faults → ⊥
+
+-- a run over such bytes ends with Ok, unless memory runs out
+abbrev pub IsComplete : (List ℕ → Type 0) → (Outside → Outside → Status → Report ObjData MorData → Type 0) → Type 0
+IsComplete Fine is_run =
+    (before after : Outside) (status : Status) (report : Report ObjData MorData) (bytes : List ℕ) → Fine bytes → TellsAndWorks before after bytes → is_run before after status report → (status ≡ Ok) ⊎ (status ≡ NoMemory)
+
+-- the bytes are a text of a script without faults whose kinds are built
+pub record IsBuiltText (bytes : List ℕ) : Type 0 where
+  pub form : Checked
+  pub sound : IsSoundText bytes form
+  pub built : unbuilt form.prelude ≡ []

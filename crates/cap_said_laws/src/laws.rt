@@ -1,7 +1,8 @@
 // The laws of what is said of an input, and of how a run ends, each a call that does nothing.
+ghost use Rattle.cap_judge.specs.Judged.{AreAccepted};
 ghost use Rattle.cap_top.specs.Judged.{IsPlanJudged, IsCheckJudged};
 ghost use Rattle.cap_top.specs.Run.{IsPlainRun, IsPlanRun, IsCheckRun, IsUsageRun};
-ghost use Rattle.cap_said_laws.specs.Laws.{OneCertificates, SaysOneThing, PlainSaysOneThing, TellsFaults};
+ghost use Rattle.cap_said_laws.specs.Laws.{OneCertificates, SaysOneThing, PlainSaysOneThing, TellsFaults, IsComplete, IsBuiltText};
 
 /// The certificates of a prelude are one text at most.
 pub fn law_certificates_are_determined()
@@ -31,4 +32,12 @@ pub fn law_status_tells_faults()
     ensures plan { TellsFaults IsPlanRun }
     ensures check { TellsFaults IsCheckRun }
     ensures usage { TellsFaults IsUsageRun }
+{}
+
+/// Where the source tells its bytes, at most 1,048,576, no call of source or sink fails, and the bytes are a script without faults
+/// whose kinds are built (for `check`: certificates without a false line), a command ends with Ok, unless memory runs out.
+pub fn law_commands_are_complete()
+    ensures plain { IsComplete IsBuiltText IsPlainRun }
+    ensures plan { IsComplete IsBuiltText IsPlanRun }
+    ensures check { IsComplete AreAccepted IsCheckRun }
 {}

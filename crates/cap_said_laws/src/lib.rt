@@ -4,6 +4,6 @@
 mod laws;
 
 pub use laws::{
-    law_certificates_are_determined, law_check_says_one_thing, law_plain_says_one_thing,
-    law_plan_says_one_thing, law_status_tells_faults,
+    law_certificates_are_determined, law_check_says_one_thing, law_commands_are_complete,
+    law_plain_says_one_thing, law_plan_says_one_thing, law_status_tells_faults,
 };
