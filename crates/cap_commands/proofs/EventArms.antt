@@ -82,7 +82,7 @@ pub nothing-at : (others : List OfData → Type 0) → AreOthers others → (say
     → ((later : List OfData) → says.said (told_in (objects (s.seen ++ later))) [] answer) → says.sort answer → IsToldAnswer (any_offer s.offer) (told_at s) answer → DoesAt others says s answer s
 nothing-at others are says s answer full said sort told = record {
   more = [];
-  goes = record { offer = refl; session = refl; tries = sym (append-nil s.tries); own = All-nil (λ (e : OfData). e.session ≡ s.session); woven = woven-start others are s.seen };
+  goes = record { offer = refl; session = refl; tries = sym (append-nil s.tries); own = All-nil (λ (e : OfData). e.session ≡ s.session); woven = woven-start others are s.seen; hand = refl };
   does = said;
   sort = sort;
   told = told;

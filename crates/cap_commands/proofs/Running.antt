@@ -148,7 +148,7 @@ module _ (others : List OfData → Type 0) (are : AreOthers others) (S : Standin
     own = [];
     added = sym (append-nil before);
     are = λ session at. at;
-    runs = λ session at. record { does = λ histories whole. does session histories; full = λ histories whole. full histories; grown = λ n. woven-start others are (seen_at seats n) };
+    runs = λ session at. record { does = λ histories whole. does session histories; full = λ histories whole. full histories; grown = λ n. woven-start others are (seen_at seats n); hands = λ n. refl };
     agrees = λ session at scope agrees fits literal. agrees-behind S (telling seats) (telling seats) (λ n h x e. e) scope agrees c answer (binds scope agrees fits);
     stays = λ session at n h x e. e;
   }

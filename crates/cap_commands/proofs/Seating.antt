@@ -31,6 +31,7 @@ use Rattle.cap_report.specs.Named.{category_name}
 use Rattle.cap_accounts.specs.Commands.{category_of, lacking, DoesIn}
 use Rattle.cap_accounts.specs.Accounts.{of_category, DoesAll, DoesOrLacks, InCategory, IsFullOf}
 use Rattle.cap_desk.specs.Books.{frame}
+use Rattle.cap_desk.specs.Hands.{with_more}
 use Rattle.cap_desk.specs.Woven.{IsWoven, AreOthers}
 use Rattle.cap_desk.proofs.Weaving.{woven-start}
 use Rattle.cap_seat.specs.Events.{entered, HasFullFront}
@@ -38,7 +39,7 @@ use Rattle.cap_seat.specs.Seats.{Holds}
 use Rattle.cap_session_lines.proofs.Recording.{whole-front}
 use Rattle.cap_commands.specs.Kinds.{kinds}
 use Rattle.cap_commands.specs.Agreement.{Standing}
-use Rattle.cap_commands.specs.Seats.{AtSeat, OfData, with_number, IsSeat, AreSeats, seen_or_none, seen_at, AreWhole, FullIsWhole, CommandRuns}
+use Rattle.cap_commands.specs.Seats.{AtSeat, OfData, with_number, IsSeat, AreSeats, seen_or_none, seen_at, hand_or_none, hand_at, AreWhole, FullIsWhole, CommandRuns}
 use Rattle.cap_commands.specs.Doing.{DoesAt, IsFullSeen, in_category}
 
 -- what is found in a list stands there at a place
@@ -187,11 +188,22 @@ module _ (others : List OfData → Type 0) (are : AreOthers others) (session : S
         subst (λ es. IsWoven others (seen_at seats n) es (seen_at after n)) (sym (other-category made.number n other entries))
         (subst (λ o. IsWoven others (seen_at seats n) [] (seen_or_none o)) (sym (set-elsewhere seats made.number.0 n (emptied s') (λ e. other (sym e)))) (woven-start others are (seen_at seats n)))
 
+    hand-after : (n : ℕ) (b : Bool) → (b ≡ true → made.number.0 ≡ n) → (b ≡ false → made.number.0 ≡ n → ⊥) → hand_at after n ≡ with_more (hand_at seats n) (length (of_category n (with_number made.number entries)))
+    hand-after n true same apart =
+        subst (λ m. hand_at after m ≡ with_more (hand_at seats m) (length (of_category m (with_number made.number entries)))) (same refl)
+        (ap hand_or_none here-after ∙ d.goes.hand ∙ ap (λ hand. with_more hand (length entries)) (sym (ap hand_or_none there))
+        ∙ ap (λ es. with_more (hand_at seats made.number.0) (length es)) (sym (own-category made.number entries)))
+    hand-after n false same apart =
+        let other = apart refl in
+        ap hand_or_none (set-elsewhere seats made.number.0 n (emptied s') (λ e. other (sym e)))
+        ∙ ap (λ es. with_more (hand_at seats n) (length es)) (sym (other-category made.number n other entries))
+
     pub runs-at : CommandRuns others session S seats c (with_number made.number entries) answer after
     runs-at = record {
       does = does-after;
       full = λ histories whole. full-after histories whole answer d.full;
       grown = λ n. grown-after n (made.number.0 == n) (eqb-true made.number.0 n) (number-apart (made.number.0 == n) made.number.0 n (eq-eqb made.number.0 n));
+      hands = λ n. hand-after n (made.number.0 == n) (eqb-true made.number.0 n) (number-apart (made.number.0 == n) made.number.0 n (eq-eqb made.number.0 n));
     }
 
 -- the seats stay the session's seats

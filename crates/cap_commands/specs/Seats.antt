@@ -1,5 +1,5 @@
 -- The seats of a session, one before each category that was made, and what a command over them does.
-use Rattle.std.specs.Prelude.{◌≡◌, ℕ, List, [], ◌∷◌, ◌++◌, map, Option, Some, None, slice_get}
+use Rattle.std.specs.Prelude.{◌≡◌, ℕ, List, [], ◌∷◌, ◌++◌, length, map, Option, Some, None, slice_get}
 use Rattle.std.specs.List.{AllZip}
 use Rattle.cap_names.specs.declared.identifiers.CatNo.{CatNo}
 use Rattle.cap_names.specs.declared.identifiers.Handle.{Handle}
@@ -15,6 +15,7 @@ use Rattle.cap_offer.specs.Labels.{Label, any_offer}
 use Rattle.cap_history.specs.declared.entries.Entry.{Entry}
 use Rattle.cap_legal.specs.Legal.{Legal}
 use Rattle.cap_desk.specs.Books.{frame}
+use Rattle.cap_desk.specs.Hands.{Hand, with_more}
 use Rattle.cap_desk.specs.Woven.{IsWoven}
 use Rattle.cap_seat.specs.Seats.{Sitting, told_at, Holds}
 use Rattle.cap_report.specs.declared.lines.LineAnswer.{LineAnswer}
@@ -69,6 +70,14 @@ seen_or_none (Some s) = s.seen
 abbrev pub seen_at : List AtSeat → ℕ → List OfData
 seen_at seats n = seen_or_none (slice_get seats n)
 
+-- what the desk before the category with a number has of its state
+abbrev pub hand_or_none : Option AtSeat → Hand
+hand_or_none None = record { place = []; added = 0 }
+hand_or_none (Some s) = s.hand
+
+abbrev pub hand_at : List AtSeat → ℕ → Hand
+hand_at seats n = hand_or_none (slice_get seats n)
+
 -- whole histories of the categories, of which the session has seen fronts
 pub record IsWholeOf (histories : List (History ObjData MorData)) (n : ℕ) (s : AtSeat) : Type 0 where
   pub later : List OfData
@@ -83,8 +92,9 @@ abbrev pub FullIsWhole : List (History ObjData MorData) → Standing → Command
 FullIsWhole histories S c (line.Refused (refusal.Full n k)) = (category : CatNo) × IsFullOf kinds rule_table histories S c category n k
 FullIsWhole histories S c answer = Unit {0}
 
--- A command of a session: on whatever whole histories, its events and its answer are what it does; and in each category its own entries are woven among those of others.
+-- A command of a session: on whatever whole histories, its events and its answer are what it does; and in each category its own entries are woven among those of others, and are all that was added at the desk.
 pub record CommandRuns (others : List OfData → Type 0) (session : SessionNo) (S : Standing) (seats : List AtSeat) (c : Command CheckedObj MorLit) (events : List (CatNo × OfData)) (answer : LineAnswer MorData) (seats' : List AtSeat) : Type 0 where
   pub does : (histories : List (History ObjData MorData)) → AreWhole histories seats' → DoesOrLacks kinds rule_table histories (lacking S c) session S c events answer
   pub full : (histories : List (History ObjData MorData)) → AreWhole histories seats' → FullIsWhole histories S c answer
   pub grown : (n : ℕ) → IsWoven others (seen_at seats n) (of_category n events) (seen_at seats' n)
+  pub hands : (n : ℕ) → hand_at seats' n ≡ with_more (hand_at seats n) (length (of_category n events))

@@ -1,5 +1,5 @@
 -- A step keeps a history legal, and is a desk's.
-use Rattle.std.proofs.Common.{◌≡◌, ℕ, List, [], Result, Ok, Err, sym, subst, ap, ◌∙◌, refl}
+use Rattle.std.proofs.Common.{◌≡◌, ℕ, List, [], ◌∷◌, length, Result, Ok, Err, sym, subst, ap, ◌∙◌, refl, length-append}
 use Rattle.std.proofs.lemmas.List.{append-nil}
 use Rattle.cap_names.specs.declared.identifiers.SessionNo.{SessionNo}
 use Rattle.cap_ops.specs.Primitives.{OfferData}
@@ -14,6 +14,7 @@ use Rattle.cap_store.specs.State.{Log, Steps}
 use Rattle.cap_legal.specs.Legal.{setup_of, TrueEvent, Legal}
 use Rattle.cap_legal.proofs.Longer.{legal-next}
 use Rattle.cap_desk.specs.Books.{frame, IsLedger}
+use Rattle.cap_desk.specs.Hands.{Hand, hand_behind}
 use Rattle.cap_desk.specs.Woven.{IsNothing}
 use Rattle.cap_desk.specs.Desks.{log_of, DeskSteps}
 
@@ -41,3 +42,12 @@ module _ {O M : Type 0} (D : OfferData O M) (object_cells : O → ℕ) (morphism
   -- with nothing between
   pub own-steps : (seen seen' : List (Entry O M)) (session : SessionNo) (event : Event O M) (result : Result (Reply O M) StepRefusal) → Steps object_cells morphism_cells (log_of D seen) session event result (log_of D seen') → DeskSteps D object_cells morphism_cells IsNothing seen session event result seen'
   own-steps seen seen' session event result s = record { between = []; allowed = refl; steps = subst (λ es. Steps object_cells morphism_cells (log_of D es) session event result (log_of D seen')) (sym (append-nil seen)) s }
+
+  -- with all entries added at one desk, a step adds what it enters
+  abbrev own_hand : List (Entry O M) → Hand
+  own_hand entries = record { place = []; added = length entries }
+
+  pub own-hand : (seen seen' : List (Entry O M)) (session : SessionNo) (event : Event O M) (result : Result (Reply O M) StepRefusal) → Steps object_cells morphism_cells (log_of D seen) session event result (log_of D seen') → own_hand seen' ≡ hand_behind (own_hand seen) result
+  own-hand seen seen' session event (Ok reply) s = ap own_hand s.1.is ∙ ap (λ n. record { place = []; added = n }) (length-append seen (entry session event reply ∷ []))
+  own-hand seen seen' session event (Err (Full n k)) s = ap (λ l. own_hand l.entries) s.3
+  own-hand seen seen' session event (Err NoMemory) s = ap (λ l. own_hand l.entries) s.1

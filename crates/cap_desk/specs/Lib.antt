@@ -1,3 +1,4 @@
 pub mod Books
+pub mod Hands
 pub mod Woven
 pub mod Desks

@@ -5,6 +5,7 @@ ghost use Rattle.cap_legal.specs.Legal.{TrueEvent, Legal};
 ghost use Rattle.cap_history.specs.declared.entries.Entry.{Entry};
 ghost use Rattle.cap_history.specs.Replies.{entry};
 ghost use Rattle.cap_desk.specs.Books.{frame};
+ghost use Rattle.cap_desk.specs.Hands.{Hand, hand_behind};
 ghost use Rattle.cap_desk.specs.Woven.{AreOthers};
 ghost use Rattle.cap_desk.specs.Desks.{DeskSteps};
 ghost use Rattle.cap_store.specs.State.{reply_of, GivesBack};
@@ -23,6 +24,9 @@ pub trait Desk<C: Offer> {
     /// The entries that it has seen: a front of the category's history.
     ghost seen: { Self → List (Entry C.O C.M) };
 
+    /// Which state it stands before, and how many entries were added here.
+    ghost hand: { Self → Hand };
+
     /// The entries of others that may stand between two of its own.
     ghost others: { List (Entry C.O C.M) → Type 0 };
 
@@ -38,6 +42,7 @@ pub trait Desk<C: Offer> {
         ensures legal { Legal (frame (C.offered (offer self.new)) C.O.cells_of C.M.cells_of) (seen self.new) }
         ensures same { offer self.new ≡ offer self.old }
         ensures steps { DeskSteps (C.offered (offer self.old)) C.O.cells_of C.M.cells_of others (seen self.old) session event (reply_of result) (seen self.new) }
+        ensures hand { hand self.new ≡ hand_behind (hand self.old) (reply_of result) }
         ensures copy { IfOk result (λ x. x.1 ≡ entry session event x.0) }
         ensures back { GivesBack event result };
 

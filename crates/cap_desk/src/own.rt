@@ -1,11 +1,12 @@
 // A category's state of one's own.
-ghost use Rattle.std.specs.Prelude.{◌≡◌, ◌++◌, IfOk};
+ghost use Rattle.std.specs.Prelude.{◌≡◌, [], ◌++◌, IfOk, length};
 ghost use Rattle.std.proofs.Common.{refl, ap, ◌∙◌};
 ghost use Rattle.cap_rules.specs.Table.{rule_table};
 ghost use Rattle.cap_legal.specs.Legal.{TrueEvent, Legal};
 ghost use Rattle.cap_history.specs.Replies.{entry};
 ghost use Rattle.cap_store.specs.State.{reply_of, GivesBack};
 ghost use Rattle.cap_desk.specs.Books.{frame};
+ghost use Rattle.cap_desk.specs.Hands.{hand_behind};
 ghost use Rattle.cap_desk.specs.Desks.{DeskSteps};
 ghost use Rattle.cap_desk.specs.Woven.{IsNothing};
 
@@ -44,6 +45,8 @@ impl<C: Offer> Desk<C> for OwnDesk<C> {
 
     ghost seen = { λ d. d.ledger.entries };
 
+    ghost hand = { λ d. record { place = []; added = length d.ledger.entries } };
+
     ghost others = { IsNothing };
 
     fn enter(
@@ -57,6 +60,7 @@ impl<C: Offer> Desk<C> for OwnDesk<C> {
         ensures legal { Legal (frame (C.offered self.new.ledger.offer) C.O.cells_of C.M.cells_of) self.new.ledger.entries }
         ensures same { self.new.ledger.offer ≡ self.old.ledger.offer }
         ensures steps { DeskSteps (C.offered self.old.ledger.offer) C.O.cells_of C.M.cells_of IsNothing self.old.ledger.entries session event (reply_of result) self.new.ledger.entries }
+        ensures hand { record { place = []; added = length self.new.ledger.entries } ≡ hand_behind (record { place = []; added = length self.old.ledger.entries }) (reply_of result) }
         ensures copy { IfOk result (λ x. x.1 ≡ entry session event x.0) }
         ensures back { GivesBack event result }
     {

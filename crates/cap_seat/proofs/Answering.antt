@@ -33,6 +33,7 @@ use Rattle.cap_history.proofs.OneMore.{read-more, final-stays}
 use Rattle.cap_legal.specs.Legal.{IsFit, TrueEvent, Legal}
 use Rattle.cap_legal.proofs.Histories.{legal-sound}
 use Rattle.cap_desk.specs.Books.{frame}
+use Rattle.cap_desk.specs.Hands.{hand_behind}
 use Rattle.cap_seat.specs.declared.tries.Tried.{Tried}
 use Rattle.cap_seat.specs.declared.tries.Tried.TheVariants.{Replied, Full as TriedFull}
 use Rattle.cap_seat.specs.Events.{try_event, try_of, step_of}
@@ -125,7 +126,7 @@ module _ {O M : Type 0} (D : OfferData O M) (object_cells : O → ℕ) (morphism
   module _ (others : List (Entry O M) → Type 0) {X : Type 0} (s s' : Sitting X O M) (H : Holds D object_cells morphism_cells s) (legal : Legal (frame D object_cells morphism_cells) s'.seen) (H' : Holds D object_cells morphism_cells s') where
     -- the sitting behind an event
     abbrev behind : Event O M → Tried O M → Sitting X O M
-    behind event a = record { offer = s.offer; session = s.session; seen = s'.seen; known = known_by s.known event a; tries = s.tries ++ try_of s.session event a ∷ []; knows = knows_by s.knows event a }
+    behind event a = record { offer = s.offer; session = s.session; seen = s'.seen; known = known_by s.known event a; tries = s.tries ++ try_of s.session event a ∷ []; knows = knows_by s.knows event a; hand = hand_behind s.hand (step_of a) }
 
     tries-grow : (event : Event O M) (a : Tried O M) → Tries D object_cells morphism_cells others s event a s' → Grows (state_of s) (told_at s) (state_of (behind event a)) (told_at (behind event a))
     tries-grow event a T =

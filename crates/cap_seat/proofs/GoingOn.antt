@@ -1,5 +1,5 @@
 -- Asks and puts of a seat let it go on, and so does a want of memory.
-use Rattle.std.proofs.Common.{ℕ, List, [], ◌∷◌, ◌++◌, sym, ap, ◌∙◌, refl}
+use Rattle.std.proofs.Common.{◌≡◌, ℕ, List, [], ◌∷◌, ◌++◌, length, sym, ap, ◌∙◌, refl}
 use Rattle.std.specs.List.{filter_map}
 use Rattle.std.proofs.lemmas.List.{append-nil}
 use Rattle.std.proofs.lemmas.List.Elements.{All-nil, All-cons}
@@ -13,6 +13,7 @@ use Rattle.cap_history.specs.declared.entries.Event.TheVariants.{Ask, Put}
 use Rattle.cap_history.specs.declared.entries.Reply.TheVariants.{Hit, Miss, Kept, Found, NotFinal}
 use Rattle.cap_history.specs.declared.entries.Entry.{Entry}
 use Rattle.cap_history.specs.Replies.{entry}
+use Rattle.cap_desk.specs.Hands.{with_more}
 use Rattle.cap_desk.specs.Woven.{IsWoven, AreOthers}
 use Rattle.cap_seat.specs.declared.tries.Tried.{Tried}
 use Rattle.cap_seat.specs.declared.tries.Tried.TheVariants.{Replied, Full as TriedFull}
@@ -36,6 +37,10 @@ module _ {O M : Type 0} (D : OfferData O M) (object_cells : O → ℕ) (morphism
     weight_is = T.steps.steps.2;
   }
 
+  tried-hand : (event : Event O M) (a : Tried O M) → Tries D object_cells morphism_cells others s event a s' → s'.hand ≡ with_more s.hand (length (filter_map entered (try_of s.session event a ∷ [])))
+  tried-hand event (Replied r) T = ap (λ (x : Sitting X O M). x.hand) T.is
+  tried-hand event (TriedFull n k) T = ap (λ (x : Sitting X O M). x.hand) T.is
+
   -- an event that is an ask or a put
   tried-on : (event : Event O M) (a : Tried O M) → IsCallTry s.session (try_of s.session event a) → Tries D object_cells morphism_cells others s event a s' → GoesOn object_cells morphism_cells others s s'
   tried-on event a is T =
@@ -47,6 +52,7 @@ module _ {O M : Type 0} (D : OfferData O M) (object_cells : O → ℕ) (morphism
         tries = ap (λ (x : Sitting X O M). x.tries) T.is;
         calls = All-cons (IsCallTry s.session) t [] is (All-nil (IsCallTry s.session));
         woven = tried-woven event a T;
+        hand = tried-hand event a T;
         refused = All-cons (IsRefusedByFull object_cells morphism_cells s'.seen) t [] (tried-refused event a T) (All-nil (IsRefusedByFull object_cells morphism_cells s'.seen));
       }
 
@@ -77,5 +83,6 @@ module _ {O M : Type 0} (D : OfferData O M) (object_cells : O → ℕ) (morphism
     tries = ap (λ (x : Sitting X O M). x.tries) W.is ∙ sym (append-nil s.tries);
     calls = All-nil (IsCallTry s.session);
     woven = (W.sees.between, W.sees.allowed, W.sees.is);
+    hand = ap (λ (x : Sitting X O M). x.hand) W.is;
     refused = All-nil (IsRefusedByFull object_cells morphism_cells s'.seen);
   }

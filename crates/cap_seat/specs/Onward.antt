@@ -1,10 +1,11 @@
--- How a seat goes on: what it tries are asks and puts, whose entries stand in what it has seen since, among those of others.
-use Rattle.std.specs.Prelude.{◌≡◌, ℕ, List, [], ◌++◌}
+-- How a seat goes on: what it tries are asks and puts, whose entries stand in what it has seen since, among those of others, and are all that was added at its desk.
+use Rattle.std.specs.Prelude.{◌≡◌, ℕ, ◌+◌, List, [], ◌++◌, length}
 use Rattle.std.specs.List.{All, filter_map}
-use Rattle.std.proofs.Common.{refl, ◌∙◌, sym, ap, subst, append_assoc}
+use Rattle.std.proofs.Common.{refl, ◌∙◌, sym, ap, subst, append_assoc, arith, length-append}
 use Rattle.std.proofs.lemmas.List.{append-nil}
 use Rattle.std.proofs.lemmas.List.Elements.{All-nil, All-append, All-weaker, filter_map-append}
 use Rattle.cap_history.specs.declared.entries.Entry.{Entry}
+use Rattle.cap_desk.specs.Hands.{Hand, with_more}
 use Rattle.cap_desk.specs.Woven.{IsWoven, AreOthers}
 use Rattle.cap_desk.proofs.Weaving.{woven-start, woven-on, woven-longer}
 use Rattle.cap_seat.specs.declared.tries.Try.{Try}
@@ -19,12 +20,17 @@ pub record GoesOn {X O M : Type 0} (object_cells : O → ℕ) (morphism_cells : 
   pub tries : t.tries ≡ s.tries ++ more
   pub calls : All (IsCallTry s.session) more
   pub woven : IsWoven others s.seen (filter_map entered more) t.seen
+  pub hand : t.hand ≡ with_more s.hand (length (filter_map entered more))
   pub refused : All (IsRefusedByFull object_cells morphism_cells t.seen) more
 
 module _ {O M : Type 0} (object_cells : O → ℕ) (morphism_cells : M → ℕ) where
   still-refused : (seen more : List (Entry O M)) (t : Try O M) → IsRefusedByFull object_cells morphism_cells seen t → IsRefusedByFull object_cells morphism_cells (seen ++ more) t
   still-refused seen more (Entered e) r = tt
   still-refused seen more (Full event n k) r = record { front = r.front; rest = r.rest ++ more; splits = ap (λ es. es ++ more) r.splits ∙ append_assoc r.front r.rest more; full = r.full; count_is = r.count_is; weight_is = r.weight_is }
+
+-- two lots of entries are added as one
+pub more-twice : {E : Type 0} (hand : Hand) (xs ys : List E) → with_more (with_more hand (length xs)) (length ys) ≡ with_more hand (length (xs ++ ys))
+more-twice hand xs ys = ap (λ n. record { place = hand.place; added = n }) (omega (arith, length-append xs ys))
 
 module _ {X O M : Type 0} (object_cells : O → ℕ) (morphism_cells : M → ℕ) (others : List (Entry O M) → Type 0) (are : AreOthers others) where
   pub goes-on-none : (s : Sitting X O M) → GoesOn object_cells morphism_cells others s s
@@ -35,6 +41,7 @@ module _ {X O M : Type 0} (object_cells : O → ℕ) (morphism_cells : M → ℕ
     tries = sym (append-nil s.tries);
     calls = All-nil (IsCallTry s.session);
     woven = woven-start others are s.seen;
+    hand = refl;
     refused = All-nil (IsRefusedByFull object_cells morphism_cells s.seen);
   }
 
@@ -49,5 +56,7 @@ module _ {X O M : Type 0} (object_cells : O → ℕ) (morphism_cells : M → ℕ
         tries = h.tries ∙ (ap (λ ts. ts ++ h.more) g.tries ∙ append_assoc s.tries g.more h.more);
         calls = All-append (IsCallTry s.session) g.more h.more g.calls (subst (λ x. All (IsCallTry x) h.more) g.session h.calls);
         woven = subst (λ own. IsWoven others s.seen own u.seen) (sym (filter_map-append entered g.more h.more)) (woven-on others are s.seen (filter_map entered g.more) t.seen (filter_map entered h.more) u.seen g.woven h.woven);
+        hand = h.hand ∙ ap (λ hand. with_more hand (length (filter_map entered h.more))) g.hand ∙ more-twice s.hand (filter_map entered g.more) (filter_map entered h.more)
+            ∙ ap (λ own. with_more s.hand (length own)) (sym (filter_map-append entered g.more h.more));
         refused = All-append P g.more h.more (All-weaker (IsRefusedByFull object_cells morphism_cells t.seen) P (λ x r. subst (λ es. IsRefusedByFull object_cells morphism_cells es x) (sym longer.1) (still-refused object_cells morphism_cells t.seen longer.0 x r)) g.more g.refused) h.refused;
       }

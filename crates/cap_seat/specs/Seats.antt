@@ -23,13 +23,14 @@ use Rattle.cap_history.specs.declared.reading.Finality.{Finality}
 use Rattle.cap_history.specs.Reading.{objects, finality}
 use Rattle.cap_legal.specs.Legal.{Legal}
 use Rattle.cap_desk.specs.Books.{frame}
+use Rattle.cap_desk.specs.Hands.{Hand, hand_behind}
 use Rattle.cap_desk.specs.Desks.{DeskSteps}
 use Rattle.cap_seat.specs.declared.tries.Try.{Try}
 use Rattle.cap_seat.specs.declared.tries.Tried.{Tried}
 use Rattle.cap_seat.specs.declared.tries.Tried.TheVariants.{Replied, Full as TriedFull}
 use Rattle.cap_seat.specs.Events.{try_event, try_of, step_of}
 
--- the offer of the category, the session, the entries that were seen, the objects told, what was tried, and whether the plan is known
+-- the offer of the category, the session, the entries that were seen, the objects told, what was tried, whether the plan is known, and what the desk has of the state before it
 pub record Sitting (X O M : Type 0) : Type 0 where
   pub offer : X
   pub session : SessionNo
@@ -37,6 +38,7 @@ pub record Sitting (X O M : Type 0) : Type 0 where
   pub known : List (Handle × O)
   pub tries : List (Try O M)
   pub knows : Bool
+  pub hand : Hand
 
 -- the object that was told of a handle
 abbrev pub told_among : {O : Type 0} → List (Handle × O) → Handle → Option O
@@ -101,7 +103,7 @@ put_of (TriedFull entries cells) = Some (puts.Full entries cells)
 -- an event of the session: the step of the state, behind what others have put, is tried, and what it tells is told
 pub record Tries {X O M : Type 0} (D : OfferData O M) (object_cells : O → ℕ) (morphism_cells : M → ℕ) (others : List (Entry O M) → Type 0) (s : Sitting X O M) (event : Event O M) (a : Tried O M) (s' : Sitting X O M) : Type 0 where
   pub steps : DeskSteps D object_cells morphism_cells others s.seen s.session event (step_of a) s'.seen
-  pub is : s' ≡ record { offer = s.offer; session = s.session; seen = s'.seen; known = known_by s.known event a; tries = s.tries ++ try_of s.session event a ∷ []; knows = knows_by s.knows event a }
+  pub is : s' ≡ record { offer = s.offer; session = s.session; seen = s'.seen; known = known_by s.known event a; tries = s.tries ++ try_of s.session event a ∷ []; knows = knows_by s.knows event a; hand = hand_behind s.hand (step_of a) }
 
 -- entries of others may have been seen, and no more
 pub record SeesOthers {O M : Type 0} (others : List (Entry O M) → Type 0) (seen seen' : List (Entry O M)) : Type 0 where
@@ -112,7 +114,7 @@ pub record SeesOthers {O M : Type 0} (others : List (Entry O M) → Type 0) (see
 -- without memory nothing was tried, though entries of others may have been seen
 pub record Waits {X O M : Type 0} (others : List (Entry O M) → Type 0) (s s' : Sitting X O M) : Type 0 where
   pub sees : SeesOthers others s.seen s'.seen
-  pub is : s' ≡ record { offer = s.offer; session = s.session; seen = s'.seen; known = s.known; tries = s.tries; knows = s.knows }
+  pub is : s' ≡ record { offer = s.offer; session = s.session; seen = s'.seen; known = s.known; tries = s.tries; knows = s.knows; hand = s.hand }
 
 -- an ask, and a put, of the session
 pub record SeatAsks {X O M : Type 0} (D : OfferData O M) (object_cells : O → ℕ) (morphism_cells : M → ℕ) (others : List (Entry O M) → Type 0) (s : Sitting X O M) (key : Key M) (a : Asked M) (s' : Sitting X O M) : Type 0 where

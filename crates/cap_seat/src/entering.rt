@@ -3,6 +3,7 @@ ghost use Rattle.std.specs.Prelude.{◌≡◌, ◌∷◌, [], ◌++◌, ◌<◌,
 ghost use Rattle.cap_rules.specs.Table.{rule_table};
 ghost use Rattle.cap_legal.specs.Legal.{TrueEvent, Legal};
 ghost use Rattle.cap_desk.specs.Books.{frame};
+ghost use Rattle.cap_desk.specs.Hands.{hand_behind};
 ghost use Rattle.cap_desk.specs.Desks.{DeskSteps};
 ghost use Rattle.cap_seat.specs.Events.{try_of, step_of};
 ghost use Rattle.cap_seat.specs.Seats.{SeesOthers};
@@ -39,8 +40,9 @@ pub(crate) fn enter_try<C: Offer, D: Desk<C>>(
     ensures legal { Legal (frame (C.offered (D.offer desk.new)) C.O.cells_of C.M.cells_of) (D.seen desk.new) }
     ensures same { D.offer desk.new ≡ D.offer desk.old }
     ensures steps { IfOk result (λ a. DeskSteps (C.offered (D.offer desk.old)) C.O.cells_of C.M.cells_of D.others (D.seen desk.old) session event (step_of a) (D.seen desk.new)) }
+    ensures hand { IfOk result (λ a. D.hand desk.new ≡ hand_behind (D.hand desk.old) (step_of a)) }
     ensures tries { IfOk result (λ a. tries.new.items ≡ tries.old.items ++ try_of session event a ∷ []) }
-    ensures err { OnErr result (SeesOthers D.others (D.seen desk.old) (D.seen desk.new) × (tries.new.items ≡ tries.old.items)) }
+    ensures err { OnErr result (SeesOthers D.others (D.seen desk.old) (D.seen desk.new) × (D.hand desk.new ≡ D.hand desk.old) × (tries.new.items ≡ tries.old.items)) }
 {
     tries.reserve(1)?;
     match desk.enter(alloc, session, event) {

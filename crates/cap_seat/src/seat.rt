@@ -18,7 +18,7 @@ use std::alloc::Global;
 use std::marker::Model;
 
 /// A desk with the session that stands before it, the objects that it was told, what it tried, and whether it knows the plan.
-/// Contracts see it as these, and the desk as its offer and what it has seen.
+/// Contracts see it as these, and the desk as its offer, what it has seen and its hand.
 #[derive(Drop)]
 pub struct Seat<C: Offer, D: Desk<C> + Drop> {
     pub(crate) desk: D,
@@ -34,14 +34,14 @@ impl<C: Offer, D: Desk<C> + Drop> Model for Seat<C, D> {
 
     ghost Value = { Sitting C C.O C.M };
 
-    ghost view = { λ s. record { offer = D.offer s.desk; session = s.session; seen = D.seen s.desk; known = flat_map (λ told. told) s.known.items; tries = s.tries.items; knows = s.knows } };
+    ghost view = { λ s. record { offer = D.offer s.desk; session = s.session; seen = D.seen s.desk; known = flat_map (λ told. told) s.known.items; tries = s.tries.items; knows = s.knows; hand = D.hand s.desk } };
 }
 
 impl<C: Offer, D: Desk<C> + Drop> Seat<C, D> {
     /// The seat of a session that was told nothing yet, before this desk.
     pub fn new(alloc: Global, desk: D, session: SessionNo) -> Seat<C, D>
         requires { Legal (frame (C.offered (D.offer desk)) C.O.cells_of C.M.cells_of) (D.seen desk) }
-        ensures is { result ≡ record { offer = D.offer desk; session = session; seen = D.seen desk; known = []; tries = []; knows = false } }
+        ensures is { result ≡ record { offer = D.offer desk; session = session; seen = D.seen desk; known = []; tries = []; knows = false; hand = D.hand desk } }
         ensures holds { Holds (C.offered (D.offer desk)) C.O.cells_of C.M.cells_of result }
     {
         Seat {
@@ -57,6 +57,7 @@ impl<C: Offer, D: Desk<C> + Drop> Seat<C, D> {
     pub fn into_desk(self) -> D
         ensures offer { D.offer result ≡ self.offer }
         ensures seen { D.seen result ≡ self.seen }
+        ensures hand { D.hand result ≡ self.hand }
     {
         self.desk
     }

@@ -5,6 +5,7 @@ ghost use Rattle.cap_legal.specs.Legal.{TrueEvent, Legal};
 ghost use Rattle.cap_history.specs.Replies.{entry};
 ghost use Rattle.cap_store.specs.State.{reply_of, GivesBack};
 ghost use Rattle.cap_desk.specs.Books.{frame};
+ghost use Rattle.cap_desk.specs.Hands.{hand_behind};
 ghost use Rattle.cap_desk.specs.Desks.{DeskSteps};
 
 use cap_desk::Desk;
@@ -48,6 +49,8 @@ impl<'g, C: Offer, D: Desk<C>, G: Gate> Desk<C> for Gated<'g, D, G> {
 
     ghost seen = { λ g. D.seen g.desk };
 
+    ghost hand = { λ g. D.hand g.desk };
+
     ghost others = { D.others };
 
     fn enter(
@@ -61,6 +64,7 @@ impl<'g, C: Offer, D: Desk<C>, G: Gate> Desk<C> for Gated<'g, D, G> {
         ensures legal { Legal (frame (C.offered (D.offer self.new.desk)) C.O.cells_of C.M.cells_of) (D.seen self.new.desk) }
         ensures same { D.offer self.new.desk ≡ D.offer self.old.desk }
         ensures steps { DeskSteps (C.offered (D.offer self.old.desk)) C.O.cells_of C.M.cells_of D.others (D.seen self.old.desk) session event (reply_of result) (D.seen self.new.desk) }
+        ensures hand { D.hand self.new.desk ≡ hand_behind (D.hand self.old.desk) (reply_of result) }
         ensures copy { IfOk result (λ x. x.1 ≡ entry session event x.0) }
         ensures back { GivesBack event result }
     {

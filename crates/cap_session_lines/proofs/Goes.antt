@@ -1,5 +1,5 @@
 -- The entries of a command are the session's and stand in what was seen since; alone, they are all that was seen since. A refusal as full was by a front of it.
-use Rattle.std.proofs.Common.{◌≡◌, ℕ, List, [], ◌∷◌, ◌++◌, Some, sym, subst, ap, ◌∙◌, refl}
+use Rattle.std.proofs.Common.{◌≡◌, ℕ, List, [], ◌∷◌, ◌++◌, length, Some, sym, subst, ap, ◌∙◌, refl}
 use Rattle.std.specs.List.{All, filter_map}
 use Rattle.std.proofs.lemmas.List.{append-nil}
 use Rattle.std.proofs.lemmas.List.Elements.{All-nil, All-cons, All-head, All-tail}
@@ -17,6 +17,7 @@ use Rattle.cap_report.specs.declared.lines.LineAnswer.{LineAnswer}
 use Rattle.cap_report.specs.declared.lines.LineAnswer.TheVariants as line
 use Rattle.cap_report.specs.declared.lines.LineRefusal.TheVariants as refusal
 use Rattle.cap_accounts.specs.Commands.{reply_line}
+use Rattle.cap_desk.specs.Hands.{with_more}
 use Rattle.cap_desk.specs.Woven.{IsNothing, IsWoven, AreOthers}
 use Rattle.cap_desk.proofs.Weaving.{woven-alone}
 use Rattle.cap_seat.specs.declared.tries.Try.{Try}
@@ -56,6 +57,10 @@ module _ {O M : Type 0} (D : OfferData O M) (object_cells : O → ℕ) (morphism
   tried-woven are event (Replied r) T = (T.steps.between, T.steps.allowed, ([], are.nothing, T.steps.steps.1.is ∙ sym (append-nil (s.seen ++ T.steps.between ++ entry s.session event r ∷ []))))
   tried-woven are event (Full n k) T = (T.steps.between, T.steps.allowed, ap (λ l. l.entries) T.steps.steps.3)
 
+  tried-hand : (event : Event O M) (a : Tried O M) → Tries D object_cells morphism_cells others s event a s' → s'.hand ≡ with_more s.hand (length (filter_map entered (try_of s.session event a ∷ [])))
+  tried-hand event (Replied r) T = ap (λ (x : Sitting X O M). x.hand) T.is
+  tried-hand event (Full n k) T = ap (λ (x : Sitting X O M). x.hand) T.is
+
   pub event-goes : AreOthers others → (event : Event O M) (answer : LineAnswer M) → (does : EventDoes D object_cells morphism_cells others s event answer s') → GoesBy others s (try_of s.session event does.tried ∷ []) s'
   event-goes are event answer does = record {
     offer = ap (λ (x : Sitting X O M). x.offer) does.tries.is;
@@ -63,6 +68,7 @@ module _ {O M : Type 0} (D : OfferData O M) (object_cells : O → ℕ) (morphism
     tries = ap (λ (x : Sitting X O M). x.tries) does.tries.is;
     own = tried-own event does.tried;
     woven = tried-woven are event does.tried does.tries;
+    hand = tried-hand event does.tried does.tries;
   }
 
   pub call-goes : (op : ℕ) (args : List (Arg M)) (answer : LineAnswer M) → (does : CallDoes D object_cells morphism_cells others s op args answer s') → GoesBy others s does.goes.more s'
@@ -72,6 +78,7 @@ module _ {O M : Type 0} (D : OfferData O M) (object_cells : O → ℕ) (morphism
     tries = g.tries;
     own = own-entries s.session g.more g.calls;
     woven = g.woven;
+    hand = g.hand;
   }
 
   tried-full : (event : Event O M) (a : Tried O M) (n k : ℕ) → tried_line event a ≡ Some (line.Refused (refusal.Full n k)) → Tries D object_cells morphism_cells others s event a s' → HasFullFront object_cells morphism_cells s'.seen n k

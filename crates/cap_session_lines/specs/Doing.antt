@@ -1,5 +1,5 @@
 -- What a command does over a seat, and the line that it answers.
-use Rattle.std.specs.Prelude.{◌≡◌, ℕ, ◌≤◌, List, ◌++◌, Option, Some, unwrap_or}
+use Rattle.std.specs.Prelude.{◌≡◌, ℕ, ◌≤◌, List, ◌++◌, length, Option, Some, unwrap_or}
 use Rattle.std.specs.List.{All, filter_map}
 use Rattle.cap_ops.specs.declared.keys.Arg.{Arg}
 use Rattle.cap_ops.specs.declared.plans.TheConstants.{MOST_WEIGHT}
@@ -12,6 +12,7 @@ use Rattle.cap_report.specs.declared.lines.LineAnswer.{LineAnswer}
 use Rattle.cap_report.specs.declared.lines.LineAnswer.TheVariants as line
 use Rattle.cap_report.specs.declared.lines.LineRefusal.TheVariants as refusal
 use Rattle.cap_accounts.specs.Commands.{reply_line, end_line}
+use Rattle.cap_desk.specs.Hands.{with_more}
 use Rattle.cap_desk.specs.Woven.{IsWoven}
 use Rattle.cap_seat.specs.declared.tries.Try.{Try}
 use Rattle.cap_seat.specs.declared.tries.Tried.{Tried}
@@ -48,10 +49,11 @@ pub record HasWeights {O M : Type 0} (D : OfferData O M) : Type 0 where
   pub from : (op n : ℕ) → D.weight op ≡ Some n → 1 ≤ n
   pub to : (op n : ℕ) → D.weight op ≡ Some n → n ≤ MOST_WEIGHT
 
--- what a command tried stands behind what was tried before, and its entries, all of the session, in what was seen since
+-- what a command tried stands behind what was tried before, and its entries, all of the session, in what was seen since; they are all that was added at the desk
 pub record GoesBy {X O M : Type 0} (others : List (Entry O M) → Type 0) (s : Sitting X O M) (more : List (Try O M)) (s' : Sitting X O M) : Type 0 where
   pub offer : s'.offer ≡ s.offer
   pub session : s'.session ≡ s.session
   pub tries : s'.tries ≡ s.tries ++ more
   pub own : All (λ (e : Entry O M). e.session ≡ s.session) (filter_map entered more)
   pub woven : IsWoven others s.seen (filter_map entered more) s'.seen
+  pub hand : s'.hand ≡ with_more s.hand (length (filter_map entered more))

@@ -35,7 +35,7 @@ prelude_session = record { 0 = 0 }
 
 -- a seat before a category in which nothing has happened
 abbrev pub new_seat : Label → AtSeat
-new_seat x = record { offer = x; session = prelude_session; seen = []; known = []; tries = []; knows = false }
+new_seat x = record { offer = x; session = prelude_session; seen = []; known = []; tries = []; knows = false; hand = record { place = []; added = 0 } }
 
 -- a category that is made stands behind the others, and so does a seat before it
 pub record CategoryRuns (S : Standing) (seats : List AtSeat) (name : List ℕ) (over : Over) (events : List (CatNo × OfData)) (answer : LineAnswer MorData) (S' : Standing) (seats' : List AtSeat) : Type 0 where
