@@ -1,3 +1,4 @@
 pub mod Seats
 pub mod Events
 pub mod Onward
+pub mod Memories

@@ -4,8 +4,10 @@
 mod board;
 mod entering;
 mod known;
+mod memory;
 mod seat;
 mod tries;
 
+pub use memory::Memory;
 pub use seat::Seat;
 pub use tries::{Tried, Try};

@@ -4,9 +4,11 @@ ghost use Rattle.cap_ops.specs.Ends.{IsOperation};
 ghost use Rattle.cap_rules.specs.Table.{rule_table};
 ghost use Rattle.cap_legal.specs.Legal.{TrueEvent, Legal};
 ghost use Rattle.cap_desk.specs.Books.{frame};
+ghost use Rattle.cap_seat.specs.Memories.{remembering};
 ghost use Rattle.cap_seat.specs.Seats.{Holds, Tries, Waits, SeatAsks, SeatPuts, IsPlain};
 
 use crate::entering::{enter_try, push_reserved};
+use crate::memory::Memory;
 use crate::tries::{Tried, Try};
 use cap_board::{Asked, PutAnswer};
 use cap_desk::Desk;
@@ -60,6 +62,39 @@ impl<C: Offer, D: Desk<C> + Drop> Seat<C, D> {
         ensures hand { D.hand result ≡ self.hand }
     {
         self.desk
+    }
+
+    /// The desk, and what was told here.
+    pub fn into_parts(self) -> (D, Memory<C::O>)
+        ensures offer { D.offer result.0 ≡ self.offer }
+        ensures seen { D.seen result.0 ≡ self.seen }
+        ensures hand { D.hand result.0 ≡ self.hand }
+        ensures memory { result.1 ≡ record { known = self.known; knows = self.knows } }
+    {
+        let memory = Memory {
+            known: self.known,
+            knows: self.knows,
+        };
+        (self.desk, memory)
+    }
+
+    /// The seat of a session that remembers this, before this desk.
+    pub fn with_memory(
+        alloc: Global,
+        desk: D,
+        session: SessionNo,
+        memory: Memory<C::O>,
+    ) -> Seat<C, D>
+        requires { Holds (C.offered (D.offer desk)) C.O.cells_of C.M.cells_of (remembering (D.offer desk) session (D.seen desk) memory (D.hand desk)) }
+        ensures is { result ≡ remembering (D.offer desk) session (D.seen desk) memory (D.hand desk) }
+    {
+        Seat {
+            desk,
+            session,
+            known: memory.known,
+            tries: Vec::new(alloc),
+            knows: memory.knows,
+        }
     }
 
     /// From now on the events are those of this session, which knows what was told before.
