@@ -1,0 +1,39 @@
+-- Sessions at shared categories, before and after they ran.
+use Rattle.std.specs.Prelude.{◌≡◌, ℕ, ◌≤◌, List, [], length, map}
+use Rattle.std.specs.List.{AllZip}
+use Rattle.cap_names.specs.declared.identifiers.SessionNo.{SessionNo}
+use Rattle.cap_check.specs.Unbuilt.{CheckedPart}
+use Rattle.cap_fitting.specs.Forms.{behind_commands}
+use Rattle.cap_accounts.specs.Accounts.{CountFrom}
+use Rattle.cap_commands.specs.Agreement.{Standing, Agrees}
+use Rattle.cap_commands.specs.Seats.{AtSeat, AreSeats, telling}
+use Rattle.cap_shares.specs.Shares.{Shared, AtTurn}
+use Rattle.cap_thread_laws.specs.AtOnce.{IsAnything}
+use Rattle.cap_traces.specs.Chains.{Chain}
+use Rattle.cap_traces.specs.Runs.{seated}
+use Rattle.cap_session.specs.declared.jobs.Job.{Job}
+use Rattle.cap_session.specs.declared.jobs.Ended.{Ended}
+use Rattle.cap_session.specs.Courses.{CommandsFit}
+use Rattle.cap_session.specs.Places.{Fits, sat_down, stood}
+
+-- where the session sits down
+abbrev pub seats_of : List Shared → Job → List AtSeat
+seats_of ks job = sat_down job.session ks job.row.items
+
+-- a session whose commands fit has a seat at each category, and the names of the prelude agree with what stands
+pub record Ready (S : Standing) (ks : List Shared) (job : Job) : Type 0 where
+  pub few : length job.commands.now ≤ 4096
+  pub fits : AllZip Fits ks job.row.items
+  pub are : AreSeats job.session S (seats_of ks job)
+  pub prelude : List CheckedPart
+  pub fit : CommandsFit prelude job.commands.now
+  pub agrees : Agrees (behind_commands prelude []) S (telling (seats_of ks job))
+
+-- it has run, among others of which nothing is known, and its seats are free again
+pub record Ran (S : Standing) (ks : List Shared) (job : Job) (e : Ended) : Type 0 where
+  pub ended : List AtSeat
+  pub row : e.row.items ≡ map stood ended
+  pub number : e.trace.session ≡ job.session
+  pub counted : CountFrom 0 e.trace.done
+  pub behind : Standing
+  pub chain : Chain IsAnything job.session S (seated job.session (seats_of ks job)) (map (λ c. c.node) job.commands.now) e.trace.events (map (λ d. d.answer) e.trace.done) behind ended
