@@ -1,4 +1,7 @@
 pub mod Courses
 pub mod Preludes
 pub mod Sessions
+pub mod Places
+pub mod Jobs
+pub mod Shares
 pub mod Reports

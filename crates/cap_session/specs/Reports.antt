@@ -1,4 +1,4 @@
--- What a whole run on one thread reports.
+-- What a whole run reports, on one thread and on many.
 use Rattle.std.specs.Prelude.{◌≡◌, List, option_map}
 use Rattle.std.specs.List.{AllZip, filter_map}
 use Rattle.cap_checked.specs.declared.tree.Checked.{Checked}
@@ -12,6 +12,7 @@ use Rattle.cap_report.specs.declared.report.History.{History}
 use Rattle.cap_report.specs.declared.report.Report.{Report}
 use Rattle.cap_report.specs.declared.report.Trace.{Trace}
 use Rattle.cap_report.specs.declared.situation.Made.{Made}
+use Rattle.cap_accounts.specs.Accounts.{Accounts}
 use Rattle.cap_one_report.specs.InTurn.{IsInTurn}
 use Rattle.cap_right_laws.specs.Right.{IsRight}
 use Rattle.cap_commands.specs.Kinds.{kinds}
@@ -28,3 +29,8 @@ pub record IsReport (seats : List AtSeat) (traces : List (Trace ObjData MorData)
 pub record IsPlainReport (form : Checked) (r : Report ObjData MorData) : Type 0 where
   pub turn : IsInTurn kinds rule_table form r
   pub right : AllZip (λ (m : Made Label) (h : History ObjData MorData). IsRight (any_offer m.category) h.entries) turn.accounts.behind.categories r.histories
+
+-- The report accounts for the script, in whatever order its sessions took turns; and each history is right.
+pub record IsRunReport (form : Checked) (r : Report ObjData MorData) : Type 0 where
+  pub accounts : Accounts kinds rule_table form r
+  pub right : AllZip (λ (m : Made Label) (h : History ObjData MorData). IsRight (any_offer m.category) h.entries) accounts.behind.categories r.histories

@@ -1,14 +1,16 @@
 // Answers for the report and for the names that stand for them.
-ghost use Rattle.std.specs.Prelude.{◌≡◌, IfOk};
+ghost use Rattle.std.specs.Prelude.{◌≡◌, ◌++◌, IfOk, OnOk};
 ghost use Rattle.cap_report.specs.Named.{bound_name};
 
 use cap_checked::CheckedObj;
+use cap_data::MorData;
 use cap_grammar::Command;
 use cap_history::HeldPlan;
 use cap_keys::copy_arrow;
 use cap_names::{Items, MorLit, Name, NoMemory};
+use cap_offer::AnyCat;
 use cap_ops::{Arrow, Datum};
-use cap_report::LineAnswer;
+use cap_report::{Bound, LineAnswer, Made, Situation};
 use std::alloc::Global;
 
 fn copy_arrows<M: Datum>(alloc: Global, arrows: &[Arrow<M>]) -> Result<Vec<Arrow<M>>, NoMemory>
@@ -62,4 +64,67 @@ pub(crate) fn bound_name(command: &Command<CheckedObj, MorLit>) -> Option<Name>
         Command::Let { name, .. } => Some(*name),
         Command::Call { name, .. } => Some(*name),
     }
+}
+
+/// Puts copies of the names of tables behind the others.
+fn push_tables(copies: &mut Items<(Name, ())>, tables: &[(Name, ())]) -> Result<(), NoMemory>
+    ensures { OnOk result (copies.new ≡ copies.old ++ tables.now) }
+{
+    'tables: for table in tables {
+        copies.push((table.0, ()))?;
+    }
+    Ok(())
+}
+
+/// Puts copies of the categories that were made behind the others.
+fn push_categories(
+    alloc: Global,
+    copies: &mut Items<Made<AnyCat>>,
+    categories: &[Made<AnyCat>],
+) -> Result<(), NoMemory>
+    ensures { OnOk result (copies.new ≡ copies.old ++ categories.now) }
+{
+    'categories: for made in categories {
+        copies.push(Made {
+            name: made.name,
+            number: made.number,
+            category: made.category.copy(alloc)?,
+        })?;
+    }
+    Ok(())
+}
+
+/// Puts copies of the names that were bound behind the others.
+fn push_bound(
+    alloc: Global,
+    copies: &mut Items<Bound<MorData>>,
+    bound: &[Bound<MorData>],
+) -> Result<(), NoMemory>
+    ensures { OnOk result (copies.new ≡ copies.old ++ bound.now) }
+{
+    'bound: for each in bound {
+        copies.push(Bound {
+            name: each.name,
+            answer: copy_answer(alloc, &each.answer)?,
+        })?;
+    }
+    Ok(())
+}
+
+/// What stands, once more.
+pub(crate) fn copy_standing(
+    alloc: Global,
+    standing: &Situation<AnyCat, (), MorData>,
+) -> Result<Situation<AnyCat, (), MorData>, NoMemory>
+    ensures { IfOk result (λ copy. copy ≡ standing.now) }
+{
+    let mut copy = Situation {
+        tables: Items::new(Vec::new(alloc)),
+        categories: Items::new(Vec::new(alloc)),
+        bound: Items::new(Vec::new(alloc)),
+    };
+    push_tables(&mut copy.tables, standing.tables.as_slice())?;
+    push_categories(alloc, &mut copy.categories, standing.categories.as_slice())?;
+    push_bound(alloc, &mut copy.bound, standing.bound.as_slice())?;
+    Ok(copy)
 }

@@ -7,7 +7,7 @@ ghost use Rattle.cap_session.specs.Reports.{IsPlainReport};
 use crate::course::Course;
 use crate::prelude::{OwnSeat, run_parts};
 use crate::reports::report;
-use crate::sessions::{hand_over, run_sessions};
+use crate::sessions::{hand_over, run_one_by_one};
 use cap_check::Checked;
 use cap_data::{MorData, ObjData};
 use cap_fitting::{law_forms_fit, law_literals_fit};
@@ -20,7 +20,7 @@ use cap_rules::rules;
 use std::alloc::Global;
 
 /// A run in which nothing has happened.
-fn at_first<'g, G: Gate>(alloc: Global) -> Course<OwnSeat<'g, G>>
+pub(crate) fn at_first<'g, G: Gate>(alloc: Global) -> Course<OwnSeat<'g, G>>
     ensures { IsAtFirst result }
 {
     Course {
@@ -51,6 +51,6 @@ pub fn run_plain<G: Gate>(
     let mut traces = Vec::new(alloc);
     traces.push(hand_over(alloc, &mut course, SessionNo(0)))?;
     let sessions = script.sessions();
-    run_sessions(alloc, &rules, &mut course, sessions, &mut traces, gate)?;
+    run_one_by_one(alloc, &rules, &mut course, sessions, &mut traces, gate)?;
     report(alloc, course.seats, traces)
 }

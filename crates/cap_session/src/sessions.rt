@@ -66,7 +66,7 @@ pub(crate) fn run_session<D: Desk<AnyCat> + Drop, G: Gate>(
 }
 
 /// The number of the session behind so many traces, that of the prelude among them.
-fn next_session(traces: usize) -> SessionNo
+pub(crate) fn next_session(traces: usize) -> SessionNo
     requires { traces < 256 }
     ensures { result.0 ≡ traces }
 {
@@ -74,7 +74,7 @@ fn next_session(traces: usize) -> SessionNo
 }
 
 /// Runs the sessions one after another, and puts their traces behind that of the prelude.
-pub(crate) fn run_sessions<'g, G: Gate>(
+pub(crate) fn run_one_by_one<'g, G: Gate>(
     alloc: Global,
     rules: &RuleSet,
     course: &mut Course<OwnSeat<'g, G>>,

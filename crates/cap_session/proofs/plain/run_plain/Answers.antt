@@ -17,8 +17,8 @@ run_parts-requires-clause-comes g c κs within =
       built = c.requires;
     }
 
-pub run_sessions-requires-clause-comes : goal.run_sessions-requires-clause-comes
-run_sessions-requires-clause-comes g c κs within =
+pub run_one_by_one-requires-clause-comes : goal.run_one_by_one-requires-clause-comes
+run_one_by_one-requires-clause-comes g c κs within =
     let form = c.args.script.now in
     let traces = c.push.new.self.items in
     let alone : traces ≡ c.hand_over.result ∷ [] = c.in_ok-push.ensures.items ∙ ap (λ l. l ++ c.hand_over.result ∷ []) c.new-traces.ensures.items in
@@ -31,15 +31,15 @@ report-requires-after_bounds g c κs within =
     let traces = c.push.new.self.items in
     let alone : traces ≡ c.hand_over.result ∷ [] = c.in_ok-push.ensures.items ∙ ap (λ l. l ++ c.hand_over.result ∷ []) c.new-traces.ensures.items in
     few-seats form c.prelude.result.now c.sessions-sessions.result.now c.prelude.ensures.value c.sessions-sessions.ensures c.run_parts.new.course c.hand_over.new.course c.hand_over.result c.in_ok-run_parts.ensures c.hand_over.ensures
-    c.run_sessions.new.course traces c.run_sessions.new.traces.items alone c.in_ok-run_sessions.ensures (forms_fit form c.prelude.ensures.sound)
+    c.run_one_by_one.new.course traces c.run_one_by_one.new.traces.items alone c.in_ok-run_one_by_one.ensures (forms_fit form c.prelude.ensures.sound)
 
 pub returns : goal.returns
 returns g c =
     let form = c.args.script.now in
-    let last = c.run_sessions.new.course in
+    let last = c.run_one_by_one.new.course in
     let traces = c.push.new.self.items in
     let alone : traces ≡ c.hand_over.result ∷ [] = c.in_ok-push.ensures.items ∙ ap (λ l. l ++ c.hand_over.result ∷ []) c.new-traces.ensures.items in
-    if-ok (IsReport last.seats.items c.run_sessions.new.traces.items) (IsPlainReport form)
+    if-ok (IsReport last.seats.items c.run_one_by_one.new.traces.items) (IsPlainReport form)
     (plain-report form c.prelude.result.now c.sessions-sessions.result.now c.prelude.ensures.value c.sessions-sessions.ensures c.run_parts.new.course c.hand_over.new.course c.hand_over.result c.in_ok-run_parts.ensures c.hand_over.ensures
-    last traces c.run_sessions.new.traces.items alone c.in_ok-run_sessions.ensures)
+    last traces c.run_one_by_one.new.traces.items alone c.in_ok-run_one_by_one.ensures)
     c.report.result c.report.ensures

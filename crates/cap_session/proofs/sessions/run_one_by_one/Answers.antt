@@ -3,7 +3,7 @@ use Rattle.cap_desk.specs.Woven.{IsNothing}
 use Rattle.cap_traces.proofs.Sessions.{sessions-more}
 use Rattle.cap_session.specs.Sessions.{SessionComes, RunsSession}
 use Rattle.cap_session.proofs.Sitting.{Sitting, session-comes, sitting-on, few-traces}
-use Rattle.cap_session.proofs.sessions.run_sessions.Goals as goal
+use Rattle.cap_session.proofs.sessions.run_one_by_one.Goals as goal
 
 pub run_session-requires-clause-comes : goal.run_session-requires-clause-comes
 run_session-requires-clause-comes g c κs within =
