@@ -1,6 +1,5 @@
 -- Sessions at shared categories, before and after they ran.
 use Rattle.std.specs.Prelude.{◌≡◌, ℕ, ◌≤◌, List, [], length, map}
-use Rattle.std.specs.List.{AllZip}
 use Rattle.cap_names.specs.declared.identifiers.SessionNo.{SessionNo}
 use Rattle.cap_check.specs.Unbuilt.{CheckedPart}
 use Rattle.cap_fitting.specs.Forms.{behind_commands}
@@ -14,7 +13,7 @@ use Rattle.cap_traces.specs.Runs.{seated}
 use Rattle.cap_session.specs.declared.jobs.Job.{Job}
 use Rattle.cap_session.specs.declared.jobs.Ended.{Ended}
 use Rattle.cap_session.specs.Courses.{CommandsFit}
-use Rattle.cap_session.specs.Places.{Fits, sat_down, stood}
+use Rattle.cap_session.specs.Places.{AllFit, sat_down, stood}
 
 -- where the session sits down
 abbrev pub seats_of : List Shared → Job → List AtSeat
@@ -23,7 +22,7 @@ seats_of ks job = sat_down job.session ks job.row.items
 -- a session whose commands fit has a seat at each category, and the names of the prelude agree with what stands
 pub record Ready (S : Standing) (ks : List Shared) (job : Job) : Type 0 where
   pub few : length job.commands.now ≤ 4096
-  pub fits : AllZip Fits ks job.row.items
+  pub fits : AllFit ks job.row.items
   pub are : AreSeats job.session S (seats_of ks job)
   pub prelude : List CheckedPart
   pub fit : CommandsFit prelude job.commands.now

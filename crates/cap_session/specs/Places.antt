@@ -13,13 +13,19 @@ pub record Fits (k : Shared) (s : AtTurn) : Type 0 where
   pub place : s.place ≡ k.place
   pub label : s.label ≡ Some k.offer
 
+-- and so do the seats of a row, at the first categories
+abbrev pub AllFit : List Shared → List AtTurn → Type 0
+AllFit ks [] = Unit {0}
+AllFit [] (s ∷ row) = ⊥
+AllFit (k ∷ ks) (s ∷ row) = Fits k s × AllFit ks row
+
 -- a session sits there, and remembers what the prelude was told
 abbrev pub sitting : SessionNo → Shared → AtTurn → AtSeat
 sitting session k s = remembering k.offer session s.seen k.memory (record { place = s.place; added = s.added })
 
 abbrev pub sat_down : SessionNo → List Shared → List AtTurn → List AtSeat
-sat_down session [] row = []
-sat_down session (k ∷ ks) [] = []
+sat_down session ks [] = []
+sat_down session [] (s ∷ row) = []
 sat_down session (k ∷ ks) (s ∷ row) = sitting session k s ∷ sat_down session ks row
 
 abbrev pub HoldsThere : AtSeat → Type 0

@@ -1,7 +1,7 @@
 // A session sits down at shared categories, and stands up.
 ghost use Rattle.std.specs.Prelude.{◌≡◌, map, IfOk};
-ghost use Rattle.std.specs.List.{All, AllZip};
-ghost use Rattle.cap_session.specs.Places.{Fits, HoldsThere, sat_down, stood};
+ghost use Rattle.std.specs.List.{All};
+ghost use Rattle.cap_session.specs.Places.{AllFit, HoldsThere, sat_down, stood};
 
 use crate::turn_desk::TurnDesk;
 use cap_io::Gate;
@@ -24,19 +24,19 @@ pub(crate) fn sit_down<'t, R: Wait, G: Gate>(
     mut row: Vec<SessionSeat>,
     session: SessionNo,
 ) -> Result<Vec<SharedSeat<'t, R, G>>, NoMemory>
-    requires fits { AllZip Fits categories.now row.items }
+    requires fits { AllFit categories.now row.items }
     requires holds { All HoldsThere (sat_down session categories.now row.items) }
     ensures { IfOk result (λ seats. seats.items ≡ sat_down session categories.now row.entry.items) }
 {
-    let mut seats = Vec::new(alloc);
-    'row: while let Some(seat) = row.pop() {
-        let number = row.len();
-        let category = &categories[number];
-        let desk = TurnDesk::new(rt, gate, category, seat, CatNo(number as u8));
-        let memory = category.memory().copy(alloc)?;
-        seats.push(Seat::with_memory(alloc, desk, session, memory))?;
-    }
-    seats.as_mut_slice().reverse();
+    let Some(seat) = row.pop() else {
+        return Ok(Vec::new(alloc));
+    };
+    let number = row.len();
+    let mut seats = sit_down(rt, alloc, gate, categories, row, session)?;
+    let category = &categories[number];
+    let memory = category.memory().copy(alloc)?;
+    let desk = TurnDesk::new(rt, gate, category, seat, CatNo(number as u8));
+    seats.push(Seat::with_memory(alloc, desk, session, memory))?;
     Ok(seats)
 }
 
@@ -47,10 +47,10 @@ pub(crate) fn stand_up<'t, R: Wait, G: Gate>(
 ) -> Result<Vec<SessionSeat>, NoMemory>
     ensures { IfOk result (λ row. row.items ≡ map stood seats.entry.items) }
 {
-    let mut row = Vec::new(alloc);
-    seats.as_mut_slice().reverse();
-    'seats: while let Some(seat) = seats.pop() {
-        row.push(seat.into_desk().into_seat())?;
-    }
+    let Some(seat) = seats.pop() else {
+        return Ok(Vec::new(alloc));
+    };
+    let mut row = stand_up(alloc, seats)?;
+    row.push(seat.into_desk().into_seat())?;
     Ok(row)
 }
