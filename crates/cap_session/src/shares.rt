@@ -95,7 +95,9 @@ pub(crate) fn close_all<'g, G: Gate>(
     };
     let number = CatNo(categories.len() as u8);
     let mut seats = close_all(alloc, categories, gate)?;
-    let desk = Gated::new(OwnDesk::new(category.close()), gate, number);
+    let ledger = category.close();
+    ledger.law_legal();
+    let desk = Gated::new(OwnDesk::new(ledger), gate, number);
     seats.push(Seat::new(alloc, desk, SessionNo(0)))?;
     Ok(seats)
 }
