@@ -36,3 +36,4 @@ pub record Ran (S : Standing) (ks : List Shared) (job : Job) (e : Ended) : Type 
   pub counted : CountFrom 0 e.trace.done
   pub behind : Standing
   pub chain : Chain IsAnything job.session S (seated job.session (seats_of ks job)) (map (λ c. c.node) job.commands.now) e.trace.events (map (λ d. d.answer) e.trace.done) behind ended
+  pub are : AreSeats job.session S ended

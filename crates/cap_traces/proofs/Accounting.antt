@@ -38,12 +38,12 @@ abbrev number_of : ℕ → CatNo
 number_of n = record { 0 = n }
 
 -- the histories of seats are what was seen, and legal
-seen-from : (n : ℕ) (seats : List AtSeat) (i : ℕ) → history_of (histories_from n seats) i ≡ seen_at seats i
+pub seen-from : (n : ℕ) (seats : List AtSeat) (i : ℕ) → history_of (histories_from n seats) i ≡ seen_at seats i
 seen-from n [] i = refl
 seen-from n (s ∷ seats) zero = refl
 seen-from n (s ∷ seats) (suc i) = seen-from (suc n) seats i
 
-plans-from : (n : ℕ) (seats : List AtSeat) → filter_map (λ (s : AtSeat). option_map (λ (f : Finality). f.plan) (finality s.seen)) seats
+pub plans-from : (n : ℕ) (seats : List AtSeat) → filter_map (λ (s : AtSeat). option_map (λ (f : Finality). f.plan) (finality s.seen)) seats
     ≡ filter_map (λ (h : History ObjData MorData). option_map (λ (f : Finality). f.plan) (finality h.entries)) (histories_from n seats)
 plans-from n [] = refl
 plans-from n (s ∷ seats) = ap (cons_option (option_map (λ (f : Finality). f.plan) (finality s.seen))) (plans-from (suc n) seats)
