@@ -329,7 +329,7 @@ fn certificates_are_accepted_rejected_or_refused(rt: HostRuntime) -> Result<(), 
         let mut source = SureSource::new(input.as_bytes().to_vec(alloc)?);
         let mut sink = SureSink::new(alloc)?;
         let words = vec![in alloc; String::from_str(alloc, "check")?]?;
-        let outcome = cap(rt, alloc, &words, &mut source, &mut sink, &OpenGate);
+        let outcome = cap(&rt, alloc, &words, &mut source, &mut sink, &OpenGate);
         assert_eq!(rt; outcome.status, status, "at {pullback}");
         assert!(rt; sink.bytes() == output.as_bytes(), "at {pullback}");
     }

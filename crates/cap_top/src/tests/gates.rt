@@ -89,12 +89,20 @@ fn run_at<R: Abort + Threads + Wait + Sync>(
     };
     let mut source = SureSource::new(input.as_bytes().to_vec(alloc)?);
     let mut sink = SureSink::new(alloc)?;
-    let words =
-        vec![in alloc; String::from_str(alloc, "run")?, String::from_str(alloc, "--log")?]?;
+    let words = vec![in alloc;
+        String::from_str(alloc, "run")?,
+        String::from_str(alloc, "--log")?,
+    ]?;
     let outcome = cap(rt, alloc, &words, &mut source, &mut sink, &gate);
     assert_eq!(rt; outcome.status, Status::Ok);
-    assert!(rt; sink.bytes().starts_with(output.as_bytes()), "the text of the run");
-    assert!(rt; gate.first.load(Ordering::SeqCst) > 0 && gate.second.load(Ordering::SeqCst) > 0, "both came");
+    assert!(rt;
+        sink.bytes().starts_with(output.as_bytes()),
+        "the text of the run"
+    );
+    assert!(rt;
+        gate.first.load(Ordering::SeqCst) > 0 && gate.second.load(Ordering::SeqCst) > 0,
+        "both came"
+    );
     assert_eq!(rt; gate.gave_up.load(Ordering::SeqCst), 0);
     Ok(outcome)
 }
@@ -103,9 +111,12 @@ fn run_at<R: Abort + Threads + Wait + Sync>(
 fn sessions_meet_before_their_first_command(rt: HostRuntime) -> Result<(), Fail> {
     let alloc = rt.alloc();
     let sessions = "session s\nlet k = V Kernel f\nend\nsession t\nlet k = V Kernel f\nend\n";
-    let lines = "session s\nV#3: 1\nk = V#3 -> V#1 [1 2]\nsession t\nV#3: 1\nk = V#3 -> V#1 [1 2]\n";
+    let lines =
+        "session s\nV#3: 1\nk = V#3 -> V#1 [1 2]\nsession t\nV#3: 1\nk = V#3 -> V#1 [1 2]\n";
     let input = format!(in alloc; "{PRELUDE}{sessions}")?;
-    let output = format!(in alloc; "{PRELUDE_OUTPUT}{lines}log V\n0 s0 register Kernel 20 -> done\n1 s0 finalise -> final\n")?;
+    let output = format!(in alloc;
+        "{PRELUDE_OUTPUT}{lines}log V\n0 s0 register Kernel 20 -> done\n1 s0 finalise -> final\n"
+    )?;
     let places = (GatePlace::Command(0), GatePlace::Command(0));
     let outcome = run_at(&rt, alloc, places, input.as_str(), output.as_str())?;
     let (kept, hit, found) = told(&outcome);
@@ -118,7 +129,8 @@ fn sessions_meet_before_their_first_command(rt: HostRuntime) -> Result<(), Fail>
 fn sessions_meet_behind_a_miss(rt: HostRuntime) -> Result<(), Fail> {
     let alloc = rt.alloc();
     let sessions = "session s\nlet k = V Kernel f\nend\nsession t\nlet k = V Kernel f\nend\n";
-    let lines = "session s\nV#3: 1\nk = V#3 -> V#1 [1 2]\nsession t\nV#3: 1\nk = V#3 -> V#1 [1 2]\n";
+    let lines =
+        "session s\nV#3: 1\nk = V#3 -> V#1 [1 2]\nsession t\nV#3: 1\nk = V#3 -> V#1 [1 2]\n";
     let input = format!(in alloc; "{PRELUDE}{sessions}")?;
     let output = format!(in alloc; "{PRELUDE_OUTPUT}{lines}log V\n")?;
     let places = (GatePlace::Missed(0), GatePlace::Missed(0));
@@ -134,7 +146,8 @@ fn sessions_meet_behind_a_miss(rt: HostRuntime) -> Result<(), Fail> {
 fn sessions_meet_in_the_turns_of_two_categories(rt: HostRuntime) -> Result<(), Fail> {
     let alloc = rt.alloc();
     let sessions = "session s\nlet k = V Kernel f\nend\nsession t\nlet l = W Kernel g\nend\n";
-    let lines = "session s\nV#3: 1\nk = V#3 -> V#1 [1 2]\nsession t\nW#3: 1\nl = W#3 -> W#1 [1 2]\n";
+    let lines =
+        "session s\nV#3: 1\nk = V#3 -> V#1 [1 2]\nsession t\nW#3: 1\nl = W#3 -> W#1 [1 2]\n";
     let input = format!(in alloc; "{PRELUDE}{OTHER}{sessions}")?;
     let output = format!(in alloc; "{PRELUDE_OUTPUT}{OTHER_OUTPUT}{lines}log V\n")?;
     let places = (GatePlace::Held(0), GatePlace::Held(1));
