@@ -12,6 +12,7 @@ id_of (words ∷ slots ∷ views ∷ atom ∷ block ∷ offset ∷ names) other 
 id_of _ other = other
 
 same-table : (a b : TableId) → numbers a ≡ numbers b → a ≡ b
+unfolding id_of
 same-table a b e = ap (λ ns. id_of ns a) e
 
 module _ {T E L : Type 0} {g : Ghosts T E L} where
