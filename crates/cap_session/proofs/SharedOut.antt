@@ -27,7 +27,7 @@ map-none f (x ∷ xs) same = ap (λ y. y ∷ map f xs) (same x) ∙ ap (λ l. x 
 
 -- no share is given at first
 pub none-given : (ks : List Shared) → ks ≡ map (fewer_by 0) ks
-none-given ks = sym (map-none (fewer_by 0) ks (λ k. refl))
+none-given ks = sym (map-none (fewer_by 0) ks (λ k. let same : k.shares - 0 ≡ k.shares = omega arith in ap (λ (m : ℕ). record k { shares = m }) same))
 
 one-more : (n : ℕ) (k : Shared) → fewer (fewer_by n k) ≡ fewer_by (n + 1) k
 one-more n k = let less : k.shares - n - 1 ≡ k.shares - (n + 1) = omega arith in ap (λ (m : ℕ). record k { shares = m }) less
@@ -109,9 +109,16 @@ module _ (c : ℕ) (rows : List (List AtTurn)) (row : List AtTurn) (k k1 k2 : Sh
             (subst (λ o. BeginsWith k2.seen (seen_there o)) (sym here) next.other);
       }
 
+nothing-joined : (k : Shared) → k ≡ record k { shares = k.shares + 0; added = k.added + 0 }
+nothing-joined k = λ i. record k { shares = shares i; added = added i } where
+  shares : k.shares ≡ k.shares + 0
+  shares = omega arith
+  added : k.added ≡ k.added + 0
+  added = omega arith
+
 -- before any row comes back
 pub joins-none : (ks : List Shared) → JoinAll ks [] ks
-joins-none ks = (refl, λ c k at. (k, at, record { is = refl; own = begins-self k.seen; others = All-nil (λ (row : List AtTurn). BeginsWith k.seen (seen_there (slice_get row c))) }))
+joins-none ks = (refl, λ c k at. (k, at, record { is = nothing-joined k; own = begins-self k.seen; others = All-nil (λ (row : List AtTurn). BeginsWith k.seen (seen_there (slice_get row c))) }))
 
 -- the categories stay in their places
 same-places : (before after : List Shared) (rows : List (List AtTurn)) → JoinAll before rows after → (row : List AtTurn) → AllZip Belongs before row → AllZip Belongs after row
