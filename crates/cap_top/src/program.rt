@@ -27,12 +27,19 @@ fn ask_for(wanted: &str, words: &[String]) -> bool
     }
 }
 
+/// Whether the word is this one.
+fn is_word(word: &String, wanted: &str) -> bool
+    ensures { IsTrue result ↔ (string_bytes word.now ≡ wanted.now) }
+{
+    word.as_str() == wanted
+}
+
 /// Whether the words are these two.
 fn ask_for_both(first: &str, second: &str, words: &[String]) -> bool
     ensures { IsTrue result ↔ (map string_bytes words.now ≡ first.now ∷ second.now ∷ []) }
 {
     match words {
-        [word, next] => word.as_str() == first && next.as_str() == second,
+        [word, next] => is_word(word, first) && is_word(next, second),
         _ => false,
     }
 }
