@@ -28,6 +28,7 @@ use Rattle.cap_report.specs.declared.lines.LineRefusal.TheVariants as refusal
 use Rattle.cap_report.specs.declared.situation.Made.{Made}
 use Rattle.cap_accounts.specs.Commands.{OneEvent, DoesIn}
 use Rattle.cap_desk.specs.Woven.{IsWoven, AreOthers}
+use Rattle.cap_desk.proofs.Handing.{more-none}
 use Rattle.cap_desk.proofs.Weaving.{woven-start}
 use Rattle.cap_seat.specs.declared.tries.Tried.{Tried}
 use Rattle.cap_seat.specs.declared.tries.Tried.TheVariants.{Replied, Full}
@@ -82,7 +83,7 @@ pub nothing-at : (others : List OfData → Type 0) → AreOthers others → (say
     → ((later : List OfData) → says.said (told_in (objects (s.seen ++ later))) [] answer) → says.sort answer → IsToldAnswer (any_offer s.offer) (told_at s) answer → DoesAt others says s answer s
 nothing-at others are says s answer full said sort told = record {
   more = [];
-  goes = record { offer = refl; session = refl; tries = sym (append-nil s.tries); own = All-nil (λ (e : OfData). e.session ≡ s.session); woven = woven-start others are s.seen; hand = refl };
+  goes = record { offer = refl; session = refl; tries = sym (append-nil s.tries); own = All-nil (λ (e : OfData). e.session ≡ s.session); woven = woven-start others are s.seen; hand = more-none s.hand };
   does = said;
   sort = sort;
   told = told;

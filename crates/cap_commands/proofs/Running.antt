@@ -32,13 +32,14 @@ use Rattle.cap_report.specs.Named.{category_name, bound_name}
 use Rattle.cap_accounts.specs.Commands.{category_of, answer_of, is_made, is_there, argument_needs, lacking, arrow_at}
 use Rattle.cap_accounts.specs.Accounts.{DoesAll, DoesOrLacks}
 use Rattle.cap_desk.specs.Woven.{AreOthers}
+use Rattle.cap_desk.proofs.Handing.{more-none}
 use Rattle.cap_desk.proofs.Weaving.{woven-start}
 use Rattle.cap_seat.specs.declared.tries.Try.{Try}
 use Rattle.cap_seat.specs.Events.{entered}
 use Rattle.cap_seat.specs.Seats.{told_at, Holds}
 use Rattle.cap_commands.specs.Kinds.{kinds}
 use Rattle.cap_commands.specs.Agreement.{Standing, IsToldAnswer, Stands, Agrees}
-use Rattle.cap_commands.specs.Seats.{AtSeat, OfData, with_number, IsSeat, AreSeats, told_or_none, telling, seen_at, FullIsWhole, CommandRuns}
+use Rattle.cap_commands.specs.Seats.{AtSeat, OfData, with_number, IsSeat, AreSeats, told_or_none, telling, seen_at, hand_at, FullIsWhole, CommandRuns}
 use Rattle.cap_commands.specs.Doing.{Saying, DoesAt, IsAtSeat, in_category}
 use Rattle.cap_commands.specs.Running.{ComesTo, DoesAlone, DoesInPlace, EndDoes, IsPrepared, AgreesBehind, NamesArrow, Runs}
 use Rattle.cap_commands.proofs.References.{any-arrow}
@@ -148,7 +149,7 @@ module _ (others : List OfData → Type 0) (are : AreOthers others) (S : Standin
     own = [];
     added = sym (append-nil before);
     are = λ session at. at;
-    runs = λ session at. record { does = λ histories whole. does session histories; full = λ histories whole. full histories; grown = λ n. woven-start others are (seen_at seats n); hands = λ n. refl };
+    runs = λ session at. record { does = λ histories whole. does session histories; full = λ histories whole. full histories; grown = λ n. woven-start others are (seen_at seats n); hands = λ n. more-none (hand_at seats n) };
     agrees = λ session at scope agrees fits literal. agrees-behind S (telling seats) (telling seats) (λ n h x e. e) scope agrees c answer (binds scope agrees fits);
     stays = λ session at n h x e. e;
   }

@@ -32,6 +32,7 @@ use Rattle.cap_accounts.specs.Commands.{category_of, lacking, DoesIn}
 use Rattle.cap_accounts.specs.Accounts.{of_category, DoesAll, DoesOrLacks, InCategory, IsFullOf}
 use Rattle.cap_desk.specs.Books.{frame}
 use Rattle.cap_desk.specs.Hands.{with_more}
+use Rattle.cap_desk.proofs.Handing.{more-none}
 use Rattle.cap_desk.specs.Woven.{IsWoven, AreOthers}
 use Rattle.cap_desk.proofs.Weaving.{woven-start}
 use Rattle.cap_seat.specs.Events.{entered, HasFullFront}
@@ -196,6 +197,7 @@ module _ (others : List OfData → Type 0) (are : AreOthers others) (session : S
     hand-after n false same apart =
         let other = apart refl in
         ap hand_or_none (set-elsewhere seats made.number.0 n (emptied s') (λ e. other (sym e)))
+        ∙ more-none (hand_at seats n)
         ∙ ap (λ es. with_more (hand_at seats n) (length es)) (sym (other-category made.number n other entries))
 
     pub runs-at : CommandRuns others session S seats c (with_number made.number entries) answer after

@@ -1,3 +1,4 @@
 pub mod Legality
 pub mod Weaving
 mod Examples
+pub mod Handing

@@ -66,6 +66,13 @@ impl<C: Offer> Ledger<C> {
         self.state.history()
     }
 
+    /// Its history is legal. The call does nothing.
+    pub fn law_legal(&self)
+        ensures { Legal (frame (C.offered self.now.offer) C.O.cells_of C.M.cells_of) self.now.entries }
+    {
+        let _entries = self.history();
+    }
+
     /// The plan, once registering has ended.
     pub fn plan(&self) -> Option<Plan>
         ensures { result ≡ option_map (λ f. f.plan) (finality self.now.entries) }

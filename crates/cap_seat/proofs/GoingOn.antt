@@ -15,6 +15,7 @@ use Rattle.cap_history.specs.declared.entries.Entry.{Entry}
 use Rattle.cap_history.specs.Replies.{entry}
 use Rattle.cap_desk.specs.Hands.{with_more}
 use Rattle.cap_desk.specs.Woven.{IsWoven, AreOthers}
+use Rattle.cap_desk.proofs.Handing.{more-none}
 use Rattle.cap_seat.specs.declared.tries.Tried.{Tried}
 use Rattle.cap_seat.specs.declared.tries.Tried.TheVariants.{Replied, Full as TriedFull}
 use Rattle.cap_seat.specs.Events.{try_of, entered, IsCallTry, IsRefusedByFull}
@@ -39,7 +40,7 @@ module _ {O M : Type 0} (D : OfferData O M) (object_cells : O → ℕ) (morphism
 
   tried-hand : (event : Event O M) (a : Tried O M) → Tries D object_cells morphism_cells others s event a s' → s'.hand ≡ with_more s.hand (length (filter_map entered (try_of s.session event a ∷ [])))
   tried-hand event (Replied r) T = ap (λ (x : Sitting X O M). x.hand) T.is
-  tried-hand event (TriedFull n k) T = ap (λ (x : Sitting X O M). x.hand) T.is
+  tried-hand event (TriedFull n k) T = ap (λ (x : Sitting X O M). x.hand) T.is ∙ more-none s.hand
 
   -- an event that is an ask or a put
   tried-on : (event : Event O M) (a : Tried O M) → IsCallTry s.session (try_of s.session event a) → Tries D object_cells morphism_cells others s event a s' → GoesOn object_cells morphism_cells others s s'
@@ -83,6 +84,6 @@ module _ {O M : Type 0} (D : OfferData O M) (object_cells : O → ℕ) (morphism
     tries = ap (λ (x : Sitting X O M). x.tries) W.is ∙ sym (append-nil s.tries);
     calls = All-nil (IsCallTry s.session);
     woven = (W.sees.between, W.sees.allowed, W.sees.is);
-    hand = ap (λ (x : Sitting X O M). x.hand) W.is;
+    hand = ap (λ (x : Sitting X O M). x.hand) W.is ∙ more-none s.hand;
     refused = All-nil (IsRefusedByFull object_cells morphism_cells s'.seen);
   }

@@ -1,12 +1,13 @@
 -- How a seat goes on: what it tries are asks and puts, whose entries stand in what it has seen since, among those of others, and are all that was added at its desk.
-use Rattle.std.specs.Prelude.{◌≡◌, ℕ, ◌+◌, List, [], ◌++◌, length}
+use Rattle.std.specs.Prelude.{◌≡◌, ℕ, List, [], ◌++◌, length}
 use Rattle.std.specs.List.{All, filter_map}
-use Rattle.std.proofs.Common.{refl, ◌∙◌, sym, ap, subst, append_assoc, arith, length-append}
+use Rattle.std.proofs.Common.{refl, ◌∙◌, sym, ap, subst, append_assoc}
 use Rattle.std.proofs.lemmas.List.{append-nil}
 use Rattle.std.proofs.lemmas.List.Elements.{All-nil, All-append, All-weaker, filter_map-append}
 use Rattle.cap_history.specs.declared.entries.Entry.{Entry}
-use Rattle.cap_desk.specs.Hands.{Hand, with_more}
+use Rattle.cap_desk.specs.Hands.{with_more}
 use Rattle.cap_desk.specs.Woven.{IsWoven, AreOthers}
+use Rattle.cap_desk.proofs.Handing.{more-none, more-twice}
 use Rattle.cap_desk.proofs.Weaving.{woven-start, woven-on, woven-longer}
 use Rattle.cap_seat.specs.declared.tries.Try.{Try}
 use Rattle.cap_seat.specs.declared.tries.Try.TheVariants.{Entered, Full}
@@ -28,10 +29,6 @@ module _ {O M : Type 0} (object_cells : O → ℕ) (morphism_cells : M → ℕ) 
   still-refused seen more (Entered e) r = tt
   still-refused seen more (Full event n k) r = record { front = r.front; rest = r.rest ++ more; splits = ap (λ es. es ++ more) r.splits ∙ append_assoc r.front r.rest more; full = r.full; count_is = r.count_is; weight_is = r.weight_is }
 
--- two lots of entries are added as one
-pub more-twice : {E : Type 0} (hand : Hand) (xs ys : List E) → with_more (with_more hand (length xs)) (length ys) ≡ with_more hand (length (xs ++ ys))
-more-twice hand xs ys = ap (λ n. record { place = hand.place; added = n }) (omega (arith, length-append xs ys))
-
 module _ {X O M : Type 0} (object_cells : O → ℕ) (morphism_cells : M → ℕ) (others : List (Entry O M) → Type 0) (are : AreOthers others) where
   pub goes-on-none : (s : Sitting X O M) → GoesOn object_cells morphism_cells others s s
   goes-on-none s = record {
@@ -41,7 +38,7 @@ module _ {X O M : Type 0} (object_cells : O → ℕ) (morphism_cells : M → ℕ
     tries = sym (append-nil s.tries);
     calls = All-nil (IsCallTry s.session);
     woven = woven-start others are s.seen;
-    hand = refl;
+    hand = more-none s.hand;
     refused = All-nil (IsRefusedByFull object_cells morphism_cells s.seen);
   }
 

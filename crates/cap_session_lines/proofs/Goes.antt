@@ -19,6 +19,7 @@ use Rattle.cap_report.specs.declared.lines.LineRefusal.TheVariants as refusal
 use Rattle.cap_accounts.specs.Commands.{reply_line}
 use Rattle.cap_desk.specs.Hands.{with_more}
 use Rattle.cap_desk.specs.Woven.{IsNothing, IsWoven, AreOthers}
+use Rattle.cap_desk.proofs.Handing.{more-none}
 use Rattle.cap_desk.proofs.Weaving.{woven-alone}
 use Rattle.cap_seat.specs.declared.tries.Try.{Try}
 use Rattle.cap_seat.specs.declared.tries.Try.TheVariants.{Entered, Full as FullTry}
@@ -59,7 +60,7 @@ module _ {O M : Type 0} (D : OfferData O M) (object_cells : O → ℕ) (morphism
 
   tried-hand : (event : Event O M) (a : Tried O M) → Tries D object_cells morphism_cells others s event a s' → s'.hand ≡ with_more s.hand (length (filter_map entered (try_of s.session event a ∷ [])))
   tried-hand event (Replied r) T = ap (λ (x : Sitting X O M). x.hand) T.is
-  tried-hand event (Full n k) T = ap (λ (x : Sitting X O M). x.hand) T.is
+  tried-hand event (Full n k) T = ap (λ (x : Sitting X O M). x.hand) T.is ∙ more-none s.hand
 
   pub event-goes : AreOthers others → (event : Event O M) (answer : LineAnswer M) → (does : EventDoes D object_cells morphism_cells others s event answer s') → GoesBy others s (try_of s.session event does.tried ∷ []) s'
   event-goes are event answer does = record {
