@@ -1,5 +1,6 @@
 // What was told at a seat.
 ghost use Rattle.std.specs.Prelude.{◌≡◌, ◌++◌, IfOk, OnOk};
+ghost use Rattle.std.specs.List.{flat_map};
 
 use cap_names::{Handle, Items, NoMemory};
 use cap_ops::Datum;
@@ -36,15 +37,26 @@ fn push_copies<O: Datum>(
     Ok(())
 }
 
+/// Copies of all that was told in these chunks.
+fn copy_chunks<O: Datum>(
+    alloc: Global,
+    chunks: &[Items<(Handle, O)>],
+) -> Result<Vec<(Handle, O)>, NoMemory>
+    ensures { IfOk result (λ copies. copies.items ≡ flat_map (λ told. told) chunks.now) }
+{
+    let mut copies = Vec::new(alloc);
+    for told in chunks {
+        push_copies(alloc, &mut copies, told.as_slice())?;
+    }
+    Ok(copies)
+}
+
 impl<O: Datum> Memory<O> {
     /// An equal memory.
     pub fn copy(&self, alloc: Global) -> Result<Memory<O>, NoMemory>
         ensures { IfOk result (λ m. m ≡ self.now) }
     {
-        let mut copies = Vec::new(alloc);
-        for told in &self.known {
-            push_copies(alloc, &mut copies, told.as_slice())?;
-        }
+        let copies = copy_chunks(alloc, self.known.as_slice())?;
         let mut known = Vec::new(alloc);
         known.push(Items::new(copies))?;
         Ok(Memory {
