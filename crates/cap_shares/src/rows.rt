@@ -28,7 +28,7 @@ pub fn split_row(
 /// Takes a session's seats back, each to its category.
 pub fn join_row(categories: &mut [SharedCategory], mut row: Vec<SessionSeat>)
     requires { AllZip Belongs categories.old row.items }
-    ensures { RowJoins categories.old row.entry.items categories.new }
+    ensures { RowJoins categories.old row.items categories.new }
 {
     'row: while let Some(seat) = row.pop() {
         categories[row.len()].join(seat);

@@ -13,6 +13,7 @@ pub struct SessionSeat {
 }
 
 impl Model for SessionSeat {
+    ghost use Rattle.std.specs.Prelude.{◌≡◌};
     ghost use Rattle.cap_turn.specs.Seats.{seat_place, seat_label, seen, added, shares, IsOutside};
     ghost use Rattle.cap_shares.specs.Shares.{AtTurn};
 
