@@ -7,3 +7,8 @@ pub mod Making
 pub mod PreludeParts
 pub mod Reporting
 pub mod Whole
+pub mod Ends
+pub mod SittingDown
+pub mod SharedOut
+pub mod Reseating
+pub mod AtOnce
