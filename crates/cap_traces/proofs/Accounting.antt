@@ -38,12 +38,12 @@ abbrev number_of : ℕ → CatNo
 number_of n = record { 0 = n }
 
 -- the histories of seats are what was seen, and legal
-pub seen-from : (n : ℕ) (seats : List AtSeat) (i : ℕ) → history_of (histories_from n seats) i ≡ seen_at seats i
+seen-from : (n : ℕ) (seats : List AtSeat) (i : ℕ) → history_of (histories_from n seats) i ≡ seen_at seats i
 seen-from n [] i = refl
 seen-from n (s ∷ seats) zero = refl
 seen-from n (s ∷ seats) (suc i) = seen-from (suc n) seats i
 
-pub plans-from : (n : ℕ) (seats : List AtSeat) → filter_map (λ (s : AtSeat). option_map (λ (f : Finality). f.plan) (finality s.seen)) seats
+plans-from : (n : ℕ) (seats : List AtSeat) → filter_map (λ (s : AtSeat). option_map (λ (f : Finality). f.plan) (finality s.seen)) seats
     ≡ filter_map (λ (h : History ObjData MorData). option_map (λ (f : Finality). f.plan) (finality h.entries)) (histories_from n seats)
 plans-from n [] = refl
 plans-from n (s ∷ seats) = ap (cons_option (option_map (λ (f : Finality). f.plan) (finality s.seen))) (plans-from (suc n) seats)
@@ -64,12 +64,12 @@ module _ (histories : List (History ObjData MorData)) (session : SessionNo) wher
       )
 
 -- what holds of the entries of each category holds of each history
-each-history : (P : List OfData → Type 0) (hs : List (History ObjData MorData)) → ((c : ℕ) → P (history_of hs c)) → All (λ (h : History ObjData MorData). P h.entries) hs
+pub each-history : (P : List OfData → Type 0) (hs : List (History ObjData MorData)) → ((c : ℕ) → P (history_of hs c)) → All (λ (h : History ObjData MorData). P h.entries) hs
 each-history P [] f = All-nil (λ (h : History ObjData MorData). P h.entries)
 each-history P (h ∷ hs) f = All-cons (λ (h : History ObjData MorData). P h.entries) h hs (f 0) (each-history P hs (λ c. f (suc c)))
 
 -- nobody sits before no category
-nobody : AreSeats prelude_session at_first []
+pub nobody : AreSeats prelude_session at_first []
 nobody = record { numbered = λ i m e. absurd (none≢some e); all = tt }
 
 module _ (form : Checked) (behind : Standing) (prelude : Trace ObjData MorData) (sessions : List (Trace ObjData MorData)) (seats' : List AtSeat) (H : HasRun form behind prelude sessions seats')
@@ -95,7 +95,7 @@ module _ (form : Checked) (behind : Standing) (prelude : Trace ObjData MorData) 
 
   prelude-does : ItemsDo kinds rule_table r.histories sessions at_first (map (λ i. i.node) form.prelude) prelude.events (map (λ d. d.answer) prelude.done) behind
   prelude-does =
-      items-do r.histories sessions at_first [] (map (λ i. i.node) form.prelude) prelude.events (map (λ d. d.answer) prelude.done) behind H.between H.prelude_runs
+      items-do r.histories sessions (λ n. together n sessions) (λ n e. e) at_first [] (map (λ i. i.node) form.prelude) prelude.events (map (λ d. d.answer) prelude.done) behind H.between H.prelude_runs
       (whole-longer H.between seats' (sessions-longer prelude_session 1 behind H.between form.sessions sessions seats' H.sessions_run after-prelude) r.histories whole) behind-prelude
 
   traces-do : AreTraces kinds rule_table r.histories 1 behind form.sessions sessions

@@ -14,7 +14,8 @@ use Rattle.cap_checked.specs.declared.tree.CheckedObj.{CheckedObj}
 use Rattle.cap_rules.specs.Table.{rule_table}
 use Rattle.cap_data.specs.declared.data.ObjData.{ObjData}
 use Rattle.cap_data.specs.declared.data.MorData.{MorData}
-use Rattle.cap_desk.specs.Woven.{IsNothing}
+use Rattle.cap_desk.specs.Woven.{IsNothing, IsWoven, AreOthers}
+use Rattle.cap_desk.proofs.Weaving.{woven-longer}
 use Rattle.cap_offer.specs.Labels.{Label}
 use Rattle.cap_report.specs.declared.lines.LineAnswer.{LineAnswer}
 use Rattle.cap_report.specs.declared.lines.LineAnswer.TheVariants as line
@@ -31,7 +32,8 @@ use Rattle.cap_commands.specs.Seats.{AtSeat, OfData, IsSeat, AreSeats, seen_or_n
 use Rattle.cap_traces.specs.Chains.{Chain}
 use Rattle.cap_traces.proofs.Pairs.{zip-right}
 use Rattle.cap_traces.proofs.Longer.{whole-seen}
-use Rattle.cap_traces.proofs.Growing.{seats-behind, seats-before, grown, seats-stay, whole-before}
+use Rattle.cap_traces.proofs.Growing.{seats-behind, seats-before, woven, stay, whole-before}
+use Rattle.cap_traces.proofs.Within.{IsWithin, woven-within}
 
 -- what the seats have seen, as whole histories
 abbrev history_at : AtSeat → History ObjData MorData
@@ -84,36 +86,38 @@ module _ (session : SessionNo) (S : Standing) where
       (now.0, now.1, nothing-later (history_of histories now.0.0) (seen_at between now.0.0) (later now.0.0) (goes now.0.0) now.2)
 
   -- a full history has no later entry
-  full-ends : (c : Command CheckedObj MorLit) (a : LineAnswer MorData) (between seats' : List AtSeat) (later : List (CatNo × OfData)) → AreSeats session S between → AreSeats session S seats'
-      → ((n : ℕ) → seen_at seats' n ≡ seen_at between n ++ of_category n later) → ((histories : List (History ObjData MorData)) → AreWhole histories between → FullIsWhole histories S c a)
+  full-ends : (others : List OfData → Type 0) (c : Command CheckedObj MorLit) (a : LineAnswer MorData) (between seats' : List AtSeat) (later : List (CatNo × OfData)) → AreSeats session S between → AreSeats session S seats'
+      → ((n : ℕ) → IsWoven others (seen_at between n) (of_category n later) (seen_at seats' n)) → ((histories : List (History ObjData MorData)) → AreWhole histories between → FullIsWhole histories S c a)
       → (histories : List (History ObjData MorData)) → AreWhole histories seats' → AreWhole histories between → FullEnds kinds rule_table histories S c a later
-  full-ends c (line.Refused (refusal.Full n k)) between seats' later A B more full histories W V =
+  full-ends others c (line.Refused (refusal.Full n k)) between seats' later A B w full histories W V =
       let now = full-seen c n k between A full histories V in
       let seat = zip-right (IsSeat session) S.categories seats' now.1.made.number.0 now.1.made B.all (found-there now.1.name now.1.made seats' B now.1.is) in
       let number : now.1.made.number.0 ≡ now.0.0 = ap (λ c. c.0) now.1.number in
       let there : slice_get seats' now.0.0 ≡ Some seat.0 = subst (λ i. slice_get seats' i ≡ Some seat.0) number seat.1 in
       let whole = W now.0.0 seat.0 there in
-      let seen : seat.0.seen ≡ seen_at between now.0.0 ++ of_category now.0.0 later = sym (ap seen_or_none there) ∙ more now.0.0 in
       let own = of_category now.0.0 later in
-      let none : own ++ whole.later ≡ [] = nothing-later (history_of histories now.0.0) (seen_at between now.0.0) (own ++ whole.later)
-      (whole.whole ∙ ap (λ es. es ++ whole.later) seen ∙ append_assoc (seen_at between now.0.0) own whole.later) now.2 in
-      (now.0, now.1, left-nil own whole.later none)
-  full-ends c _ between seats' later A B more full histories W V = tt
+      let grew = woven-within others (seen_at between now.0.0) own (seen_at seats' now.0.0) (w now.0.0) in
+      let seen : seat.0.seen ≡ seen_at between now.0.0 ++ grew.0 = sym (ap seen_or_none there) ∙ grew.1 in
+      let none : grew.0 ++ whole.later ≡ [] = nothing-later (history_of histories now.0.0) (seen_at between now.0.0) (grew.0 ++ whole.later)
+      (whole.whole ∙ ap (λ es. es ++ whole.later) seen ∙ append_assoc (seen_at between now.0.0) grew.0 whole.later) now.2 in
+      (now.0, now.1, subst (IsWithin own) (left-nil grew.0 whole.later none) grew.2)
+  full-ends others c _ between seats' later A B w full histories W V = tt
 
-module _ (session : SessionNo) where
+module _ (others : List OfData → Type 0) (any : AreOthers others) (session : SessionNo) where
   pub chain-does : (S S' : Standing) (seats seats' : List AtSeat) (cs : List (Command CheckedObj MorLit)) (events : List (CatNo × OfData)) (answers : List (LineAnswer MorData))
-      → Chain IsNothing session S seats cs events answers S' seats' → (histories : List (History ObjData MorData)) → AreWhole histories seats' → CommandsDo kinds rule_table histories session S cs events answers
+      → Chain others session S seats cs events answers S' seats' → (histories : List (History ObjData MorData)) → AreWhole histories seats' → CommandsDo kinds rule_table histories session S cs events answers
   chain-does S S' seats seats' [] events answers C histories W = (C.0, C.1)
   chain-does S S' seats seats' (c ∷ cs) events answers (first, later, a, rest, between, e, f, runs, are, chain) histories W =
       let T = with_bound S (bound_name c) a in
       let behind = seats-behind session S (bound_name c) a between are in
-      let stay = seats-stay session T between cs later rest S' seats' chain behind in
-      let here = seats-before session S (bound_name c) a seats' stay in
-      let more : (n : ℕ) → seen_at seats' n ≡ seen_at between n ++ of_category n later = grown session T between cs later rest S' seats' chain in
-      let V = whole-before session S between seats' (λ n. of_category n later) are here more histories W in
+      let here = seats-before session S (bound_name c) a seats' (stay others session T between cs later rest S' seats' chain behind) in
+      let w : (n : ℕ) → IsWoven others (seen_at between n) (of_category n later) (seen_at seats' n) = woven others session any T between cs later rest S' seats' chain in
+      let V = whole-before session S between seats' (λ n. (woven-longer others (seen_at between n) (of_category n later) (seen_at seats' n) (w n)).0) are here
+      (λ n. (woven-longer others (seen_at between n) (of_category n later) (seen_at seats' n) (w n)).1) histories W in
       subst (CommandsDo kinds rule_table histories session S (c ∷ cs) events) (sym f)
-      (first, later, e, runs.does histories V, full-ends session S c a between seats' later are here more runs.full histories W V, chain-does T S' between seats' cs later rest chain histories W)
+      (first, later, e, runs.does histories V, full-ends session S others c a between seats' later are here w runs.full histories W V, chain-does T S' between seats' cs later rest chain histories W)
 
+module _ (session : SessionNo) where
   pub chain-more : (S between : Standing) (seats middle seats' : List AtSeat) (cs : List (Command CheckedObj MorLit)) (c : Command CheckedObj MorLit) (events own : List (CatNo × OfData))
       (answers : List (LineAnswer MorData)) (a : LineAnswer MorData) → Chain IsNothing session S seats cs events answers between middle → CommandRuns IsNothing session between middle c own a seats'
       → AreSeats session between seats' → Chain IsNothing session S seats (cs ++ c ∷ []) (events ++ own) (answers ++ a ∷ []) (with_bound between (bound_name c) a) seats'

@@ -118,23 +118,23 @@ none-together c [] e = All-nil (λ (t : Trace ObjData MorData). of_category c t.
 none-together c (t ∷ ts) e =
     All-cons (λ (t : Trace ObjData MorData). of_category c t.events ≡ []) t ts (left-nil (of_category c t.events) (together c ts) e) (none-together c ts (right-nil (of_category c t.events) (together c ts) e))
 
--- whole histories of a run: what was seen behind its prelude, and what the sessions did
-module _ (histories : List (History ObjData MorData)) (sessions : List (Trace ObjData MorData)) where
+-- whole histories of a run: what was seen behind its prelude, and what came after; where nothing came, no session did anything
+module _ (histories : List (History ObjData MorData)) (sessions : List (Trace ObjData MorData)) (after : ℕ → List OfData) (silent : (n : ℕ) → after n ≡ [] → together n sessions ≡ []) where
   abbrev Goes : List AtSeat → List (CatNo × OfData) → Type 0
-  Goes seats later = (n : ℕ) → history_of histories n ≡ seen_at seats n ++ (of_category n later ++ together n sessions)
+  Goes seats later = (n : ℕ) → history_of histories n ≡ seen_at seats n ++ (of_category n later ++ after n)
 
   module _ (S : Standing) (c : Command CheckedObj MorLit) (between : List AtSeat) (later : List (CatNo × OfData)) (are : AreSeats prelude_session S between) (V : AreWhole histories between)
       (goes : Goes between later) where
     full-ends : (a : LineAnswer MorData) → ((whole : List (History ObjData MorData)) → AreWhole whole between → FullIsWhole whole S c a) → FullEnds kinds rule_table histories S c a later
     full-ends (line.Refused (refusal.Full n k)) full =
-        let ends = full-nothing prelude_session S c n k between are full histories V (λ m. of_category m later ++ together m sessions) goes in
-        (ends.0, ends.1, left-nil (of_category ends.0.0 later) (together ends.0.0 sessions) ends.2)
+        let ends = full-nothing prelude_session S c n k between are full histories V (λ m. of_category m later ++ after m) goes in
+        (ends.0, ends.1, left-nil (of_category ends.0.0 later) (after ends.0.0) ends.2)
     full-ends _ full = tt
 
     full-for-all : (a : LineAnswer MorData) → ((whole : List (History ObjData MorData)) → AreWhole whole between → FullIsWhole whole S c a) → FullForAll kinds rule_table histories S c a sessions
     full-for-all (line.Refused (refusal.Full n k)) full =
-        let ends = full-nothing prelude_session S c n k between are full histories V (λ m. of_category m later ++ together m sessions) goes in
-        (ends.0, ends.1, none-together ends.0.0 sessions (right-nil (of_category ends.0.0 later) (together ends.0.0 sessions) ends.2))
+        let ends = full-nothing prelude_session S c n k between are full histories V (λ m. of_category m later ++ after m) goes in
+        (ends.0, ends.1, none-together ends.0.0 sessions (silent ends.0.0 (right-nil (of_category ends.0.0 later) (after ends.0.0) ends.2)))
     full-for-all _ full = tt
 
   makes : (S : Standing) (seats : List AtSeat) (name : List ℕ) (o : Over) (events : List (CatNo × OfData)) (a : LineAnswer MorData) (S' : Standing) (seats' : List AtSeat)
@@ -153,12 +153,12 @@ module _ (histories : List (History ObjData MorData)) (sessions : List (Trace Ob
       (runs.0.does histories V, full-ends S c seats' later here V goes a runs.0.full, full-for-all S c seats' later here V goes a runs.0.full, runs.1)
 
   pub items-do : (S : Standing) (seats : List AtSeat) (items : List (Item CheckedObj MorLit)) (events : List (CatNo × OfData)) (answers : List (LineAnswer MorData)) (S' : Standing) (seats' : List AtSeat)
-      → ItemsRun S seats items events answers S' seats' → AreWhole histories seats' → ((n : ℕ) → history_of histories n ≡ seen_at seats' n ++ together n sessions)
+      → ItemsRun S seats items events answers S' seats' → AreWhole histories seats' → ((n : ℕ) → history_of histories n ≡ seen_at seats' n ++ after n)
       → ItemsDo kinds rule_table histories sessions S items events answers S'
   items-do S seats [] events answers S' seats' C W goes = (C.0, C.1, C.2)
   items-do S seats (i ∷ items) events answers S' seats' (first, later, a, rest, next, between, e, f, runs, are, more) W goes =
       let V = whole-longer between seats' (items-longer next between items later rest S' seats' more are) histories W in
-      let here : Goes between later = λ n. goes n ∙ ap (λ es. es ++ together n sessions) (items-grown next between items later rest S' seats' more n)
-      ∙ append_assoc (seen_at between n) (of_category n later) (together n sessions) in
+      let here : Goes between later = λ n. goes n ∙ ap (λ es. es ++ after n) (items-grown next between items later rest S' seats' more n)
+      ∙ append_assoc (seen_at between n) (of_category n later) (after n) in
       subst (λ answers. ItemsDo kinds rule_table histories sessions S (i ∷ items) events answers S') (sym f)
       (first, later, next, e, item-does S seats i first a next between later runs are V here, items-do next between items later rest S' seats' more W goes)

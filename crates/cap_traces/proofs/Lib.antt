@@ -1,4 +1,5 @@
 pub mod Pairs
+pub mod Within
 pub mod Longer
 pub mod Growing
 pub mod Doing

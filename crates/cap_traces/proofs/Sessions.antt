@@ -9,6 +9,8 @@ use Rattle.cap_checked.specs.declared.tree.CheckedObj.{CheckedObj}
 use Rattle.cap_rules.specs.Table.{rule_table}
 use Rattle.cap_data.specs.declared.data.ObjData.{ObjData}
 use Rattle.cap_data.specs.declared.data.MorData.{MorData}
+use Rattle.cap_desk.specs.Woven.{IsNothing}
+use Rattle.cap_desk.proofs.Weaving.{nothing-others}
 use Rattle.cap_report.specs.declared.report.History.{History}
 use Rattle.cap_report.specs.declared.report.Trace.{Trace}
 use Rattle.cap_accounts.specs.Accounts.{of_category, IsTrace, AreTraces}
@@ -41,7 +43,7 @@ module _ (n : ℕ) (S : Standing) (seats : List AtSeat) (p : Placed (SessionPart
 
   session-does : (histories : List (History ObjData MorData)) → AreWhole histories seats' → IsTrace kinds rule_table histories S p t
   session-does histories W = record {
-    does = chain-does t.session S run.behind (seated t.session seats) seats' (map (λ c. c.node) p.node.commands) t.events (map (λ d. d.answer) t.done) run.runs histories W;
+    does = chain-does IsNothing (nothing-others ObjData MorData) t.session S run.behind (seated t.session seats) seats' (map (λ c. c.node) p.node.commands) t.events (map (λ d. d.answer) t.done) run.runs histories W;
     counted = run.counted;
   }
 

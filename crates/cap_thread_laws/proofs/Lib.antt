@@ -1,0 +1,3 @@
+pub mod Counting
+pub mod Sessions
+pub mod Accounting
