@@ -181,8 +181,8 @@ module _ (S : Standing) (between : List AtSeat) (are : AreSeats prelude_session 
   pub begins-prelude : (c : ℕ) → BeginsWith (history_of (histories_from 0 zs) c) (seen_at between c)
   begins-prelude c = subst (λ es. BeginsWith es (seen_at between c)) (sym (entries c)) (in-or-out c (length between) (BeginsWith (seen_at zs c) (seen_at between c))
       (λ h. let a = at-some between c h in let t = at-place c a.0 a.1 in
-          subst (λ o. BeginsWith (seen_at zs c) (seen_or_none o)) (sym a.1) (subst (λ o. BeginsWith (seen_or_none o) a.0.seen) (sym t.there)
-          (subst (BeginsWith t.z.seen) (ap (λ (x : Shared). x.seen) t.is) (begins-on t.k.seen t.k2.seen t.z.seen t.joined.own t.closes.grown))))
+      subst (λ o. BeginsWith (seen_at zs c) (seen_or_none o)) (sym a.1) (subst (λ o. BeginsWith (seen_or_none o) a.0.seen) (sym t.there)
+      (subst (BeginsWith t.z.seen) (ap (λ (x : Shared). x.seen) t.is) (begins-on t.k.seen t.k2.seen t.z.seen t.joined.own t.closes.grown))))
       (λ h. subst (λ o. BeginsWith (seen_at zs c) (seen_or_none o)) (sym (at-or-none between c h)) (seen_at zs c, refl)))
 
   one-begins : (c : ℕ) (seats : List AtSeat) → length seats ≡ length S.categories → ((k : AtSeat) → slice_get zs c ≡ Some k → BeginsWith k.seen (seen_there (slice_get (map stood seats) c))) → BeginsWith (seen_at zs c) (seen_at seats c)
@@ -210,7 +210,7 @@ module _ (S : Standing) (between : List AtSeat) (are : AreSeats prelude_session 
       let L : List AtSeat → Type 0 = λ seats. length seats ≡ length S.categories in
       All-cons Begun seats es
       (λ c. subst (λ es. BeginsWith es (seen_at seats c)) (sym (entries c)) (one-begins c seats (All-head L seats es same)
-          (λ z there. All-head (λ (row : List AtTurn). BeginsWith z.seen (seen_there (slice_get row c))) (map stood seats) (rows_at_end es) (begin c z there))))
+      (λ z there. All-head (λ (row : List AtTurn). BeginsWith z.seen (seen_there (slice_get row c))) (map stood seats) (rows_at_end es) (begin c z there))))
       (all-begin es (All-tail L seats es same) (λ c z there. All-tail (λ (row : List AtTurn). BeginsWith z.seen (seen_there (slice_get row c))) (map stood seats) (rows_at_end es) (begin c z there)))
 
   pub begins-sessions : All Begun ends
@@ -219,16 +219,16 @@ module _ (S : Standing) (between : List AtSeat) (are : AreSeats prelude_session 
   pub many : (c : ℕ) → length (history_of (histories_from 0 zs) c) ≡ length (seen_at between c) + added_at c ends
   many c = ap length (entries c) ∙ in-or-out c (length between) (length (seen_at zs c) ≡ length (seen_at between c) + added_at c ends)
       (λ h. let a = at-some between c h in let t = at-place c a.0 a.1 in
-          let first : t.k2.first ≡ a.0.seen = ap (λ (x : Shared). x.first) t.joined.is ∙ ap (λ (x : Shared). x.first) t.is in
-          let none : t.k.added ≡ 0 = ap (λ (x : Shared). x.added) t.is in
-          let added : t.k2.added ≡ t.k.added + added_in c (rows_at_end ends) = ap (λ (x : Shared). x.added) t.joined.is in
-          let here : length (seen_at zs c) ≡ length t.z.seen = ap (λ o. length (seen_or_none o)) t.there in
-          let there : length (seen_at between c) ≡ length a.0.seen = ap (λ o. length (seen_or_none o)) a.1 in
-          omega (arith, here, there, t.closes.many, ap length first, none, added, all-added ends c))
+      let first : t.k2.first ≡ a.0.seen = ap (λ (x : Shared). x.first) t.joined.is ∙ ap (λ (x : Shared). x.first) t.is in
+      let none : t.k.added ≡ 0 = ap (λ (x : Shared). x.added) t.is in
+      let added : t.k2.added ≡ t.k.added + added_in c (rows_at_end ends) = ap (λ (x : Shared). x.added) t.joined.is in
+      let here : length (seen_at zs c) ≡ length t.z.seen = ap (λ o. length (seen_or_none o)) t.there in
+      let there : length (seen_at between c) ≡ length a.0.seen = ap (λ o. length (seen_or_none o)) a.1 in
+      omega (arith, here, there, t.closes.many, ap length first, none, added, all-added ends c))
       (λ h. let out = at-or-none between c h in
-          let here : length (seen_at between c) ≡ 0 = ap (λ o. length (seen_or_none o)) out in
-          let there : length (seen_at zs c) ≡ 0 = ap (λ o. length (seen_or_none o)) (at-or-none zs c (omega (arith, h, many-between, many-closed))) in
-          omega (arith, here, there, none-added (length S.categories) c ends long (omega (arith, h, many-between))))
+      let here : length (seen_at between c) ≡ 0 = ap (λ o. length (seen_or_none o)) out in
+      let there : length (seen_at zs c) ≡ 0 = ap (λ o. length (seen_or_none o)) (at-or-none zs c (omega (arith, h, many-between, many-closed))) in
+      omega (arith, here, there, none-added (length S.categories) c ends long (omega (arith, h, many-between))))
 
   -- the offers are those of the categories, and the histories are legal
   closed-at : (c : ℕ) (m : Made Label) → slice_get S.categories c ≡ Some m → (z : AtSeat) × (slice_get zs c ≡ Some z) × Legal (frame (any_offer m.category) cells_in_object cells_in_morphism) z.seen

@@ -12,3 +12,4 @@ pub mod SittingDown
 pub mod SharedOut
 pub mod Reseating
 pub mod AtOnce
+pub mod Turning

@@ -113,6 +113,7 @@ nothing-joined : (k : Shared) → k ≡ record k { shares = k.shares + 0; added 
 nothing-joined k = λ i. record k { shares = shares i; added = added i } where
   shares : k.shares ≡ k.shares + 0
   shares = omega arith
+
   added : k.added ≡ k.added + 0
   added = omega arith
 

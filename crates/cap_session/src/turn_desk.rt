@@ -1,14 +1,16 @@
-// A desk at a category's turn.
+// A desk before a category's turn.
 ghost use Rattle.std.specs.Prelude.{◌≡◌, Some, IfOk};
+ghost use Rattle.cap_data.specs.Counts.{cells_in_object, cells_in_morphism};
+ghost use Rattle.cap_offer.specs.Labels.{any_offer};
 ghost use Rattle.cap_rules.specs.Table.{rule_table};
 ghost use Rattle.cap_legal.specs.Legal.{TrueEvent, Legal};
 ghost use Rattle.cap_history.specs.Replies.{entry};
 ghost use Rattle.cap_store.specs.State.{reply_of, GivesBack};
 ghost use Rattle.cap_desk.specs.Books.{frame};
-ghost use Rattle.cap_desk.specs.Hands.{hand_behind};
 ghost use Rattle.cap_desk.specs.Desks.{DeskSteps};
-ghost use Rattle.cap_turn.specs.Seats.{IsOf, IsOutside, seen, added, shares as shares_of, seat_label, seat_place, opening};
-ghost use Rattle.cap_thread_laws.specs.AtOnce.{IsAnything};
+ghost use Rattle.cap_turn.specs.Seats.{seat_place, seat_label, seen, added, shares as shares_of, opening, IsOf, IsOutside};
+ghost use Rattle.cap_desk.specs.Hands.{Hand, hand_behind};
+ghost use Rattle.cap_session.specs.Anything.{IsAnything};
 
 use cap_data::{MorData, ObjData};
 use cap_desk::Desk;
@@ -36,7 +38,7 @@ pub struct TurnDesk<'t, R, G> {
     ghost label: { seat_label seat ≡ Some (opening turn.now).ledger.offer },
 }
 
-impl<'t, R: Wait, G: Gate> TurnDesk<'t, R, G> {
+impl<'t, R, G> TurnDesk<'t, R, G> {
     /// The desk of a session's seat at this category, which has this number.
     pub fn new(
         rt: &'t R,
@@ -49,13 +51,15 @@ impl<'t, R: Wait, G: Gate> TurnDesk<'t, R, G> {
         requires label { seat.label ≡ Some shared.now.offer }
         ensures offer { (opening result.turn.now).ledger.offer ≡ shared.now.offer }
         ensures seen { seen result.seat ≡ seat.seen }
-        ensures hand { (seat_place result.seat ≡ seat.place) × (added result.seat ≡ seat.added) }
+        ensures hand { ◌≡◌ {A = Hand} (record { place = seat_place result.seat; added = added result.seat }) (record { place = seat.place; added = seat.added }) }
     {
+        let turn = shared.turn();
+        let seat = seat.into_seat();
         TurnDesk {
             rt,
             gate,
-            turn: shared.turn(),
-            seat: seat.into_seat(),
+            turn,
+            seat,
             category,
         }
     }
@@ -82,10 +86,16 @@ impl<'t, R: Wait, G: Gate> Desk<AnyCat> for TurnDesk<'t, R, G> {
         alloc: Global,
         session: SessionNo,
         event: Event<ObjData, MorData>,
-    ) -> Result<
-        (Reply<ObjData, MorData>, Entry<ObjData, MorData>),
-        EnterRefusal<ObjData, MorData>,
-    > {
+    ) -> Result<(Reply<ObjData, MorData>, Entry<ObjData, MorData>), EnterRefusal<ObjData, MorData>>
+        requires is_true { TrueEvent (any_offer (opening self.old.turn.now).ledger.offer) rule_table (seen self.old.seat) event }
+        requires legal { Legal (frame (any_offer (opening self.old.turn.now).ledger.offer) cells_in_object cells_in_morphism) (seen self.old.seat) }
+        ensures legal { Legal (frame (any_offer (opening self.new.turn.now).ledger.offer) cells_in_object cells_in_morphism) (seen self.new.seat) }
+        ensures same { (opening self.new.turn.now).ledger.offer ≡ (opening self.old.turn.now).ledger.offer }
+        ensures steps { DeskSteps (any_offer (opening self.old.turn.now).ledger.offer) cells_in_object cells_in_morphism IsAnything (seen self.old.seat) session event (reply_of result) (seen self.new.seat) }
+        ensures hand { record { place = seat_place self.new.seat; added = added self.new.seat } ≡ hand_behind (record { place = seat_place self.old.seat; added = added self.old.seat }) (reply_of result) }
+        ensures copy { IfOk result (λ x. x.1 ≡ entry session event x.0) }
+        ensures back { GivesBack event result }
+    {
         let mut behind = self.turn.take(self.rt, &mut self.seat);
         self.gate.pass(session.0, GatePlace::Held(self.category.0));
         let entered = behind.ledger.enter(alloc, session, event);
