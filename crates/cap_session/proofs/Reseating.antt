@@ -50,48 +50,48 @@ module _ (session : SessionNo) where
       } in
       subst (λ x. Holds (any_offer x) cells_in_object cells_in_morphism b) (sym r.offer) here
 
-  pub seats-again : (ms : List (Made Label)) (as bs : List AtSeat) → AllZip (IsSeat prelude_session) ms as → AllZip (Reseats session) as bs → AllZip (IsSeat session) ms bs
+  pub seats-again : (ms : List (Made Label)) (us bs : List AtSeat) → AllZip (IsSeat prelude_session) ms us → AllZip (Reseats session) us bs → AllZip (IsSeat session) ms bs
   seats-again [] [] [] z w = tt
   seats-again [] [] (b ∷ bs) z w = absurd w
-  seats-again [] (a ∷ as) bs z w = absurd z
+  seats-again [] (a ∷ us) bs z w = absurd z
   seats-again (m ∷ ms) [] bs z w = absurd z
-  seats-again (m ∷ ms) (a ∷ as) [] z w = absurd w
-  seats-again (m ∷ ms) (a ∷ as) (b ∷ bs) z w = (
+  seats-again (m ∷ ms) (a ∷ us) [] z w = absurd w
+  seats-again (m ∷ ms) (a ∷ us) (b ∷ bs) z w = (
     record { offer = w.0.offer ∙ z.0.offer; own = w.0.session_is; holds = reseat-holds a b w.0 z.0.holds; taken = w.0.tries },
-    seats-again ms as bs z.1 w.1,
+    seats-again ms us bs z.1 w.1,
   )
 
-  pub telling-again : (as bs : List AtSeat) → AllZip (Reseats session) as bs → (n : ℕ) → StaysTold (telling as n) (telling bs n)
+  pub telling-again : (us bs : List AtSeat) → AllZip (Reseats session) us bs → (n : ℕ) → StaysTold (telling us n) (telling bs n)
   telling-again [] [] w n = λ h o e. e
   telling-again [] (b ∷ bs) w n = absurd w
-  telling-again (a ∷ as) [] w n = absurd w
-  telling-again (a ∷ as) (b ∷ bs) w zero = λ h o e. subst (λ ks. told_among ks h ≡ Some o) (sym w.0.known) e
-  telling-again (a ∷ as) (b ∷ bs) w (suc n) = telling-again as bs w.1 n
+  telling-again (a ∷ us) [] w n = absurd w
+  telling-again (a ∷ us) (b ∷ bs) w zero = λ h o e. subst (λ ks. told_among ks h ≡ Some o) (sym w.0.known) e
+  telling-again (a ∷ us) (b ∷ bs) w (suc n) = telling-again us bs w.1 n
 
-  pub seen-again : (as bs : List AtSeat) → AllZip (Reseats session) as bs → (n : ℕ) → seen_at bs n ≡ seen_at as n
+  pub seen-again : (us bs : List AtSeat) → AllZip (Reseats session) us bs → (n : ℕ) → seen_at bs n ≡ seen_at us n
   seen-again [] [] w n = refl
   seen-again [] (b ∷ bs) w n = absurd w
-  seen-again (a ∷ as) [] w n = absurd w
-  seen-again (a ∷ as) (b ∷ bs) w zero = w.0.seen
-  seen-again (a ∷ as) (b ∷ bs) w (suc n) = seen-again as bs w.1 n
+  seen-again (a ∷ us) [] w n = absurd w
+  seen-again (a ∷ us) (b ∷ bs) w zero = w.0.seen
+  seen-again (a ∷ us) (b ∷ bs) w (suc n) = seen-again us bs w.1 n
 
-  pub nothing-again : (as bs : List AtSeat) → AllZip (Reseats session) as bs → (n : ℕ) → (hand_at bs n).added ≡ 0
+  pub nothing-again : (us bs : List AtSeat) → AllZip (Reseats session) us bs → (n : ℕ) → (hand_at bs n).added ≡ 0
   nothing-again [] [] w n = refl
   nothing-again [] (b ∷ bs) w n = absurd w
-  nothing-again (a ∷ as) [] w n = absurd w
-  nothing-again (a ∷ as) (b ∷ bs) w zero = w.0.added
-  nothing-again (a ∷ as) (b ∷ bs) w (suc n) = nothing-again as bs w.1 n
+  nothing-again (a ∷ us) [] w n = absurd w
+  nothing-again (a ∷ us) (b ∷ bs) w zero = w.0.added
+  nothing-again (a ∷ us) (b ∷ bs) w (suc n) = nothing-again us bs w.1 n
 
 -- the seats that were given are those of the categories
 pub given-fit : (left : ℕ) (ks : List Shared) → AllFit (map (fewer_by left) ks) (map given ks)
 given-fit left [] = tt
 given-fit left (k ∷ ks) = (record { place = refl; label = refl }, given-fit left ks)
 
-pub reseated : (all left : ℕ) (session : SessionNo) (as : List AtSeat) (ks : List Shared) → AllZip (IsSharedOf all) as ks → AllZip (Reseats session) as (sat_down session (map (fewer_by left) ks) (map given ks))
+pub reseated : (all left : ℕ) (session : SessionNo) (us : List AtSeat) (ks : List Shared) → AllZip (IsSharedOf all) us ks → AllZip (Reseats session) us (sat_down session (map (fewer_by left) ks) (map given ks))
 reseated all left session [] [] z = tt
 reseated all left session [] (k ∷ ks) z = absurd z
-reseated all left session (a ∷ as) [] z = absurd z
-reseated all left session (a ∷ as) (k ∷ ks) z = (
+reseated all left session (a ∷ us) [] z = absurd z
+reseated all left session (a ∷ us) (k ∷ ks) z = (
   record {
     offer = ap (λ (x : Shared). x.offer) z.0;
     session_is = refl;
@@ -101,7 +101,7 @@ reseated all left session (a ∷ as) (k ∷ ks) z = (
     knows = ap (λ (x : Shared). x.memory.knows) z.0;
     added = refl;
   },
-  reseated all left session as ks z.1,
+  reseated all left session us ks z.1,
 )
 
 -- an element by what stands before it
