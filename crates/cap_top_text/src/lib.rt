@@ -12,6 +12,8 @@ mod text;
 mod values;
 
 pub use book::{Book, Bound, Made};
+pub use data::{push_morphism, push_number, push_text};
 pub use home::Home;
 pub use lines::Histories;
 pub use text::report_text;
+pub use values::push_operation;
