@@ -1,6 +1,5 @@
 use Rattle.std.proofs.Common.{◌≡◌, ◌++◌, drop}
-use Rattle.std.specs.List.{filter_map}
-use Rattle.cap_top_log.specs.Log.{item_category, category_names}
+use Rattle.cap_top_log.specs.Log.{category_names}
 use Rattle.cap_top_log.proofs.log.category_names.Given as goal
 
 abbrev pub invariant-parts : goal.invariant-parts

@@ -1,4 +1,4 @@
-use Rattle.std.proofs.Common.{◌≤◌, ◌++◌, length, ap, refl, ◌∙◌, arith, drop}
+use Rattle.std.proofs.Common.{◌≤◌, ◌++◌, length, drop, ap, refl, ◌∙◌, arith}
 use Rattle.std.specs.Prelude.{zip}
 use Rattle.std.proofs.lemmas.List.{length_push}
 use Rattle.std.proofs.lemmas.Slice.Zip.{zip_turn, zip_end, length-zip}
@@ -16,9 +16,9 @@ histories-preserved c =
     let history = c.in-Some.history.now in
     let i = length c.histories.yielded in
     let pairs = zip names histories in
-    written c.histories.out.items _ _ (history_text name history.entries) (histories_text (drop (i + 1) pairs)) (histories_text (drop i pairs)) c.histories.invariant
+    written c.histories.out.items _ _ (history_text name history.entries) _ (histories_text (drop i pairs)) c.histories.invariant
     (c.in_ok-push_history.ensures ∙ ap (λ es. c.histories.out.items ++ history_text name es) c.as_slice.ensures)
-    (ap histories_text (pairs_more names histories i (i + 1) name history refl turn))
+    (ap histories_text (pairs_more names histories i _ name history next turn))
 
 pub returns : goal.returns
 returns c =
