@@ -29,7 +29,6 @@ use Rattle.cap_thread_laws.specs.AtOnce.{IsAnything, SessionRan, SessionsRan, ad
 use Rattle.cap_traces.specs.Chains.{Chain}
 use Rattle.cap_traces.specs.Runs.{prelude_session, seated, histories_from}
 use Rattle.cap_traces.proofs.Longer.{seen-seated}
-use Rattle.cap_traces.proofs.Accounting.{seen-from}
 use Rattle.cap_session.specs.declared.jobs.Job.{Job}
 use Rattle.cap_session.specs.declared.jobs.Ended.{Ended}
 use Rattle.cap_session.specs.Jobs.{Ran, seats_of}
@@ -40,7 +39,13 @@ use Rattle.cap_session.proofs.Reseating.{Reseats, seats-again, seen-again, nothi
 use Rattle.cap_session.proofs.SharedOut.{begins-on}
 use Rattle.cap_session.proofs.Staying.{are-seated}
 
-hand-seated : (session : SessionNo) (seats : List AtSeat) (n : ℕ) → hand_at (seated session seats) n ≡ hand_at seats n
+-- the histories of seats are what was seen
+seen-from : (n : ℕ) (seats : List AtSeat) (c : ℕ) → history_of (histories_from n seats) c ≡ seen_at seats c
+seen-from n [] c = refl
+seen-from n (s ∷ seats) zero = refl
+seen-from n (s ∷ seats) (suc c) = seen-from (suc n) seats c
+
+pub hand-seated : (session : SessionNo) (seats : List AtSeat) (n : ℕ) → hand_at (seated session seats) n ≡ hand_at seats n
 hand-seated session [] n = refl
 hand-seated session (s ∷ seats) zero = refl
 hand-seated session (s ∷ seats) (suc n) = hand-seated session seats n
@@ -67,7 +72,7 @@ module _ (S : Standing) (between : List AtSeat) (are : AreSeats prelude_session 
         (subst (λ (cs : List CheckedCommand). Chain IsAnything job.session S start (map (λ (c : CheckedCommand). c.node) cs) e.trace.events (map (λ d. d.answer) e.trace.done) r.behind r.ended) is.commands r.chain);
   }
 
-abbrev rows_at_end : List (List AtSeat) → List (List AtTurn)
+abbrev pub rows_at_end : List (List AtSeat) → List (List AtTurn)
 rows_at_end ends = map (λ (seats : List AtSeat). map stood seats) ends
 
 -- so have all, with as many seats each as there are categories

@@ -13,3 +13,5 @@ pub mod SharedOut
 pub mod Reseating
 pub mod AtOnce
 pub mod Turning
+pub mod Jobbing
+pub mod Concluding

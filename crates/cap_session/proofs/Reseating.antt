@@ -2,10 +2,12 @@
 use Rattle.std.proofs.Common.{◌≡◌, ℕ, zero, suc, ◌+◌, ◌<◌, ◌≤◌, true, List, [], ◌∷◌, ◌++◌, length, map, take, drop, get_or, Option, Some, None, refl, sym, ap, ◌∙◌, subst, arith, append_assoc, length-append}
 use Rattle.std.specs.Prelude.{slice_get, IsSome}
 use Rattle.std.specs.List.{All, AllZip}
+use Rattle.std.proofs.lemmas.List.{length-map}
 use Rattle.std.proofs.lemmas.List.Elements.{All-nil, All-cons}
 use Rattle.std.proofs.lemmas.List.Sums.{get_or-le-sum_by}
 use Rattle.cap_names.specs.declared.identifiers.SessionNo.{SessionNo}
-use Rattle.cap_ops.specs.Told.{StaysTold, ToldObjects, told_in}
+use Rattle.cap_board.specs.Board.{ToldObjects}
+use Rattle.cap_ops.specs.Told.{StaysTold, told_in}
 use Rattle.cap_checked.specs.declared.tree.Checked.{Checked}
 use Rattle.cap_data.specs.Counts.{cells_in_object, cells_in_morphism}
 use Rattle.cap_desk.specs.Books.{frame}
@@ -26,6 +28,7 @@ use Rattle.cap_session.specs.Courses.{CommandsFit}
 use Rattle.cap_session.specs.Jobs.{Ready, seats_of}
 use Rattle.cap_session.specs.Places.{AllFit, sat_down}
 use Rattle.cap_session.specs.Shares.{IsSharedOf, fewer_by, IsJob, JobsFrom}
+use Rattle.cap_session.proofs.Ends.{zip-long}
 use Rattle.cap_session.proofs.Staying.{agrees-stays}
 
 -- a seat of the session b where there was one of the prelude: it knows as much, and nothing was added at it
@@ -112,7 +115,7 @@ at-place xs before behind x e = (omega (arith, ap length e, length-append before
   go (y ∷ ys) = go ys
 
 module _ (form : Checked) (fits : FormFits form) (literals : LiteralsFit form) (S : Standing) (between : List AtSeat) (are : AreSeats prelude_session S between) (agrees : Agrees (behind_commands form.prelude []) S (telling between))
-    (all left : ℕ) (ks : List Shared) (shared : AllZip (IsSharedOf all) between ks) where
+    (some : length between ≤ 256) (all left : ℕ) (ks : List Shared) (shared : AllZip (IsSharedOf all) between ks) where
   abbrev Rest : List Shared
   Rest = map (fewer_by left) ks
 
@@ -140,6 +143,7 @@ module _ (form : Checked) (fits : FormFits form) (literals : LiteralsFit form) (
       let seats = job-seats n p job is in
       record {
         few = subst (λ (cs : List CheckedCommand). length cs ≤ 4096) (sym is.commands) (few-here before behind p splits);
+        seats = subst (λ (row : List AtTurn). length row ≤ 256) (sym is.row) (omega (arith, some, length-map ks given, zip-long (IsSharedOf all) between ks shared));
         fits = subst (AllFit Rest) (sym is.row) (given-fit left ks);
         are = record { numbered = are.numbered; all = seats-again job.session S.categories between (seats_of Rest job) are.all seats };
         prelude = form.prelude;

@@ -47,7 +47,7 @@ enough n i ks less all = All-map (λ (k : Shared). 2 ≤ k.shares) (fewer_by i) 
 
 -- one job more
 pub jobs-more : (n : ℕ) (ks : List Shared) (ps : List CheckedSession) (jobs : List Job) (p : CheckedSession) (job : Job) → JobsFrom n ks ps jobs → IsJob (n + length ps) ks p job → JobsFrom n ks (ps ++ p ∷ []) (jobs ++ job ∷ [])
-jobs-more n ks [] [] p job all is = (is, tt)
+jobs-more n ks [] [] p job all is = let same : n + 0 ≡ n = omega arith in (subst (λ m. IsJob m ks p job) same is, tt)
 jobs-more n ks [] (j ∷ jobs) p job all is = absurd all
 jobs-more n ks (q ∷ ps) [] p job all is = absurd all
 jobs-more n ks (q ∷ ps) (j ∷ jobs) p job all is =
@@ -56,12 +56,12 @@ jobs-more n ks (q ∷ ps) (j ∷ jobs) p job all is =
 
 -- so many jobs are made
 pub record Made (ks : List Shared) (sessions : List CheckedSession) (i : ℕ) (left : List Shared) (jobs : List Job) : Type 0 where
-  pub left : left ≡ map (fewer_by i) ks
+  pub rest : left ≡ map (fewer_by i) ks
   pub jobs : JobsFrom 1 ks (take i sessions) jobs
   pub long : length jobs ≡ i
 
 pub made-first : (ks : List Shared) (sessions : List CheckedSession) → Made ks sessions 0 ks []
-made-first ks sessions = record { left = none-given ks; jobs = tt; long = refl }
+made-first ks sessions = record { rest = none-given ks; jobs = tt; long = refl }
 
 module _ (ks : List Shared) (sessions : List CheckedSession) (i : ℕ) (left : List Shared) (jobs : List Job) (p : CheckedSession) (h : i < length sessions) (at : p ≡ get_or sessions i p) (m : Made ks sessions i left jobs) where
   pub made-more : (left' : List Shared) (job : Job) → left' ≡ map fewer left → job.row.items ≡ map given left → job.commands.now ≡ p.node.commands → job.session.0 ≡ length jobs + 1 → Made ks sessions (i + 1) left' (jobs ++ job ∷ [])
@@ -69,11 +69,11 @@ module _ (ks : List Shared) (sessions : List CheckedSession) (i : ℕ) (left : L
       let front : take (i + 1) sessions ≡ take i sessions ++ p ∷ [] = front_more sessions i p h at in
       let long : length (take i sessions) ≡ i = length-take i sessions ∙ omega (arith, h) in
       record {
-        left = rest ∙ ap (map fewer) m.left ∙ more-given i ks;
+        rest = rest ∙ ap (map fewer) m.rest ∙ more-given i ks;
         jobs = subst (λ ps. JobsFrom 1 ks ps (jobs ++ job ∷ [])) (sym front) (jobs-more 1 ks (take i sessions) jobs p job m.jobs (record {
           number = number ∙ omega (arith, m.long, long);
           commands = commands;
-          row = row ∙ ap (map given) m.left ∙ same-given i ks;
+          row = row ∙ ap (map given) m.rest ∙ same-given i ks;
         }));
         long = length-append jobs (job ∷ []) ∙ ap (λ n. n + 1) m.long;
       }

@@ -22,6 +22,7 @@ seats_of ks job = sat_down job.session ks job.row.items
 -- a session whose commands fit has a seat at each category, and the names of the prelude agree with what stands
 pub record Ready (S : Standing) (ks : List Shared) (job : Job) : Type 0 where
   pub few : length job.commands.now ≤ 4096
+  pub seats : length job.row.items ≤ 256
   pub fits : AllFit ks job.row.items
   pub are : AreSeats job.session S (seats_of ks job)
   pub prelude : List CheckedPart

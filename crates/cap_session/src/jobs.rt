@@ -55,7 +55,7 @@ fn run_job<R: Wait, G: Gate>(
 ) -> Result<Ended, NoMemory>
     requires rules { common.rules.now ≡ rule_table }
     requires ready { Ready common.standing.now common.categories.now job }
-    ensures { IfOk result (λ e. Ran common.standing.now common.categories.now job.entry e) }
+    ensures { IfOk result (λ e. Ran common.entry.standing.now common.entry.categories.now job.entry e) }
 {
     let Job {
         session,
@@ -83,7 +83,7 @@ pub(crate) fn run_jobs<R: Threads + Wait + Sync, G: Gate>(
 ) -> Result<Vec<Ended>, NoMemory>
     requires rules { common.rules.now ≡ rule_table }
     requires ready { All (Ready common.standing.now common.categories.now) jobs.items }
-    ensures { IfOk result (λ all. AllZip (Ran common.standing.now common.categories.now) jobs.entry.items all.items) }
+    ensures { IfOk result (λ all. AllZip (Ran common.entry.standing.now common.entry.categories.now) jobs.entry.items all.items) }
 {
     let Some(last) = jobs.pop() else {
         return Ok(Vec::new(alloc));

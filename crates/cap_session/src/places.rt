@@ -1,5 +1,5 @@
 // A session sits down at shared categories, and stands up.
-ghost use Rattle.std.specs.Prelude.{◌≡◌, map, IfOk};
+ghost use Rattle.std.specs.Prelude.{◌≡◌, ◌≤◌, length, map, IfOk};
 ghost use Rattle.std.specs.List.{All};
 ghost use Rattle.cap_session.specs.Places.{AllFit, HoldsThere, sat_down, stood};
 
@@ -24,9 +24,11 @@ pub(crate) fn sit_down<'t, R: Wait, G: Gate>(
     mut row: Vec<SessionSeat>,
     session: SessionNo,
 ) -> Result<Vec<SharedSeat<'t, R, G>>, NoMemory>
+    requires few { length row.items ≤ 256 }
+    requires inside { length row.items ≤ length categories.now }
     requires fits { AllFit categories.now row.items }
     requires holds { All HoldsThere (sat_down session categories.now row.items) }
-    ensures { IfOk result (λ seats. seats.items ≡ sat_down session categories.now row.entry.items) }
+    ensures { IfOk result (λ seats. seats.items ≡ sat_down session categories.now row.items) }
 {
     let Some(seat) = row.pop() else {
         return Ok(Vec::new(alloc));

@@ -68,9 +68,9 @@ pub(crate) fn join_all(
     mut sessions: Vec<Ended>,
     traces: Vec<Trace<ObjData, MorData>>,
 ) -> Result<Vec<Trace<ObjData, MorData>>, NoMemory>
-    requires { All (Returns categories.old) (rows_of sessions.items) }
-    ensures traces { IfOk result (λ all. all.items ≡ traces.entry.items ++ traces_of sessions.entry.items) }
-    ensures joined { OnOk result (JoinAll categories.old (rows_of sessions.entry.items) categories.new) }
+    requires rows { All (Returns categories.old) (rows_of sessions.items) }
+    ensures traces { IfOk result (λ all. all.items ≡ traces.items ++ traces_of sessions.items) }
+    ensures joined { OnOk result (JoinAll categories.old (rows_of sessions.items) categories.new) }
 {
     let Some(Ended { row, trace }) = sessions.pop() else {
         return Ok(traces);
@@ -87,8 +87,9 @@ pub(crate) fn close_all<'g, G: Gate>(
     mut categories: Vec<SharedCategory>,
     gate: &'g G,
 ) -> Result<Vec<OwnSeat<'g, G>>, NoMemory>
-    requires { All IsWholeAgain categories.items }
-    ensures { IfOk result (λ seats. AllZip IsClosedAs categories.entry.items seats.items) }
+    requires few { length categories.items ≤ 256 }
+    requires whole { All IsWholeAgain categories.items }
+    ensures { IfOk result (λ seats. AllZip IsClosedAs categories.items seats.items) }
 {
     let Some(category) = categories.pop() else {
         return Ok(Vec::new(alloc));
