@@ -2,7 +2,7 @@
 use Rattle.std.proofs.Common.{◌≡◌, ℕ, zero, suc, ◌+◌, ◌-◌, ◌<◌, ◌≤◌, List, [], ◌∷◌, ◌++◌, length, map, take, get_or, Option, Some, None, refl, sym, ap, ◌∙◌, subst, arith, append_assoc}
 use Rattle.std.specs.Prelude.{slice_get}
 use Rattle.std.specs.List.{All, AllZip}
-use Rattle.std.proofs.lemmas.List.{append-nil, length-append, length-take, map-append}
+use Rattle.std.proofs.lemmas.List.{append-nil, take_all, length-append, length-take, map-append}
 use Rattle.std.proofs.lemmas.List.Elements.{All-nil, All-push, All-weaker, All-map}
 use Rattle.cap_fitting.specs.Forms.{CheckedSession}
 use Rattle.cap_fitting.proofs.Places.{front_more}
@@ -57,11 +57,11 @@ jobs-more n ks (q ∷ ps) (j ∷ jobs) p job all is =
 -- so many jobs are made
 pub record Made (ks : List Shared) (sessions : List CheckedSession) (i : ℕ) (left : List Shared) (jobs : List Job) : Type 0 where
   pub rest : left ≡ map (fewer_by i) ks
-  pub jobs : JobsFrom 1 ks (take i sessions) jobs
+  pub are : JobsFrom 1 ks (take i sessions) jobs
   pub long : length jobs ≡ i
 
 pub made-first : (ks : List Shared) (sessions : List CheckedSession) → Made ks sessions 0 ks []
-made-first ks sessions = record { rest = none-given ks; jobs = tt; long = refl }
+made-first ks sessions = record { rest = none-given ks; are = tt; long = refl }
 
 module _ (ks : List Shared) (sessions : List CheckedSession) (i : ℕ) (left : List Shared) (jobs : List Job) (p : CheckedSession) (h : i < length sessions) (at : p ≡ get_or sessions i p) (m : Made ks sessions i left jobs) where
   pub made-more : (left' : List Shared) (job : Job) → left' ≡ map fewer left → job.row.items ≡ map given left → job.commands.now ≡ p.node.commands → job.session.0 ≡ length jobs + 1 → Made ks sessions (i + 1) left' (jobs ++ job ∷ [])
@@ -70,7 +70,7 @@ module _ (ks : List Shared) (sessions : List CheckedSession) (i : ℕ) (left : L
       let long : length (take i sessions) ≡ i = length-take i sessions ∙ omega (arith, h) in
       record {
         rest = rest ∙ ap (map fewer) m.rest ∙ more-given i ks;
-        jobs = subst (λ ps. JobsFrom 1 ks ps (jobs ++ job ∷ [])) (sym front) (jobs-more 1 ks (take i sessions) jobs p job m.jobs (record {
+        are = subst (λ ps. JobsFrom 1 ks ps (jobs ++ job ∷ [])) (sym front) (jobs-more 1 ks (take i sessions) jobs p job m.are (record {
           number = number ∙ omega (arith, m.long, long);
           commands = commands;
           row = row ∙ ap (map given) m.rest ∙ same-given i ks;
@@ -147,3 +147,17 @@ module _ (before mid after : List Shared) (rows : List (List AtTurn)) (row : Lis
         let then = next.1 c first.0 here.0 first.1 here.1 in
         (then.0, then.1, joins-more c rows row k first.0 then.0 here.0 here.1 first.2 then.2),
   )
+
+-- all jobs are made
+jobs-long : (n : ℕ) (ks : List Shared) (ps : List CheckedSession) (jobs : List Job) → JobsFrom n ks ps jobs → length jobs ≡ length ps
+jobs-long n ks [] [] made = refl
+jobs-long n ks [] (job ∷ jobs) made = absurd made
+jobs-long n ks (p ∷ ps) [] made = absurd made
+jobs-long n ks (p ∷ ps) (job ∷ jobs) made = ap suc (jobs-long (suc n) ks ps jobs made.1)
+
+module _ (ks : List Shared) (sessions : List CheckedSession) (i : ℕ) (left : List Shared) (jobs : List Job) (h : length sessions ≤ i) (m : Made ks sessions i left jobs) where
+  pub made-jobs : JobsFrom 1 ks sessions jobs
+  made-jobs = subst (λ ps. JobsFrom 1 ks ps jobs) (take_all i sessions h) m.are
+
+  pub made-rest : left ≡ map (fewer_by (length sessions)) ks
+  made-rest = let all : i ≡ length sessions = sym m.long ∙ jobs-long 1 ks sessions jobs made-jobs in m.rest ∙ ap (λ n. map (fewer_by n) ks) all

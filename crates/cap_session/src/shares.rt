@@ -68,7 +68,7 @@ pub(crate) fn join_all(
     mut sessions: Vec<Ended>,
     traces: Vec<Trace<ObjData, MorData>>,
 ) -> Result<Vec<Trace<ObjData, MorData>>, NoMemory>
-    requires rows { All (Returns categories.old) (rows_of sessions.items) }
+    requires { All (Returns categories.old) (rows_of sessions.items) }
     ensures traces { IfOk result (λ all. all.items ≡ traces.items ++ traces_of sessions.items) }
     ensures joined { OnOk result (JoinAll categories.old (rows_of sessions.items) categories.new) }
 {

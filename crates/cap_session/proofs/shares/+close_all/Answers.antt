@@ -14,7 +14,7 @@ pub returns : goal.returns
 returns g t c =
     let k : Shared = c.in-Some.category in
     let a : AtSeat = c.new-3.result in
-    let desk = ap (λ d. d.ledger) (c.new-desk.ensures ∙ c.new-2.ensures) in
+    let desk = ap (λ d. d.ledger) c.new-desk.ensures ∙ c.new-2.ensures in
     let offer : a.offer ≡ c.close-ledger.result.offer = ap (λ (s : AtSeat). s.offer) c.new-3.ensures.is ∙ ap (λ b. b.offer) desk in
     let seen : a.seen ≡ c.close-ledger.result.entries = ap (λ (s : AtSeat). s.seen) c.new-3.ensures.is ∙ ap (λ b. b.entries) desk in
     let closes = c.close-ledger.ensures in
