@@ -89,9 +89,9 @@ module _ (S : Standing) (between : List AtSeat) (are : AreSeats prelude_session 
   one-returns n p job e is r =
       let start = seated job.session (seats_of Left job) in
       let place : (c : ℕ) (k : Shared) → slice_get Left c ≡ Some k → (hand_at r.ended c).place ≡ k.place = λ c k at.
-          chain-places IsAnything job.session S start (map (λ c. c.node) job.commands.now) e.trace.events (map (λ d. d.answer) e.trace.done) r.behind r.ended r.chain c
-          ∙ ap (λ h. h.place) (hand-seated job.session (seats_of Left job) c)
-          ∙ ap (λ row. (hand_at (sat_down job.session Left row) c).place) is.row ∙ sat-place job.session left ks c k at in
+      chain-places IsAnything job.session S start (map (λ c. c.node) job.commands.now) e.trace.events (map (λ d. d.answer) e.trace.done) r.behind r.ended r.chain c
+      ∙ ap (λ h. h.place) (hand-seated job.session (seats_of Left job) c)
+      ∙ ap (λ row. (hand_at (sat_down job.session Left row) c).place) is.row ∙ sat-place job.session left ks c k at in
       let long : length (map stood r.ended) ≡ length Left = length-map r.ended stood ∙ zip-long (IsSeat job.session) S.categories r.ended r.are.all ∙ sym many-left in
       subst (AllZip Belongs Left) (sym r.row) (zip-from Belongs Left (map stood r.ended) long (λ c k s at there. stood-there r.ended c s there ∙ place c k at))
 
@@ -182,16 +182,16 @@ module _ (form : Checked) (fits : FormFits form) (literals : LiteralsFit form) (
                 let items : ItemsRun at_first [] (map (λ i. i.node) form.prelude) prelude.events (map (λ d. d.answer) prelude.done) S between =
                 rw (ap (λ (t : Trace ObjData MorData). t.events) hands.trace, ap (λ (t : Trace ObjData MorData). t.done) hands.trace, sym is_prelude, hands.standing, seats-same) ran.runs in
                 let accounts = run-at-once-accounts form S prelude between (traces_of ended) whole-ran.ends
-                    (record {
-                      number = ap (λ (t : Trace ObjData MorData). t.session) hands.trace;
-                      counted = counted;
-                      prelude_runs = items;
-                      sessions_ran = subst (λ ps. SessionsRan 1 S between ps (traces_of ended) whole-ran.ends) are_sessions whole-ran.ran;
-                    })
-                    r
-                    (record {
-                      histories = subst (λ hs. AreAtEnd S between whole-ran.ends hs) (sym is.histories) (at-end S between are-behind (n + 1) (length sessions) ks ks2 shared whole-ran.ends whole-ran.long joins-there zs closed);
-                      traces = is.are_traces ∙ all;
-                      plans = is.plans ∙ plans-of 0 zs ∙ ap (filter_map (λ (h : History ObjData MorData). option_map (λ (f : Finality). f.plan) (finality h.entries))) (sym is.histories);
-                    }) in
+                (record {
+                  number = ap (λ (t : Trace ObjData MorData). t.session) hands.trace;
+                  counted = counted;
+                  prelude_runs = items;
+                  sessions_ran = subst (λ ps. SessionsRan 1 S between ps (traces_of ended) whole-ran.ends) are_sessions whole-ran.ran;
+                })
+                r
+                (record {
+                  histories = subst (λ hs. AreAtEnd S between whole-ran.ends hs) (sym is.histories) (at-end S between are-behind (n + 1) (length sessions) ks ks2 shared whole-ran.ends whole-ran.long joins-there zs closed);
+                  traces = is.are_traces ∙ all;
+                  plans = is.plans ∙ plans-of 0 zs ∙ ap (filter_map (λ (h : History ObjData MorData). option_map (λ (f : Finality). f.plan) (finality h.entries))) (sym is.histories);
+                }) in
                 record { accounts = accounts; right = accounts-right form r accounts }

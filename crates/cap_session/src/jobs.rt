@@ -1,7 +1,5 @@
-// Sessions at shared categories, each in a thread of its own.
+// A session at shared categories.
 ghost use Rattle.std.specs.Prelude.{◌≡◌, IfOk};
-ghost use Rattle.std.specs.List.{All, AllZip};
-ghost use Rattle.std.specs.Thread.{IsSync};
 ghost use Rattle.cap_rules.specs.Table.{rule_table};
 ghost use Rattle.cap_session.specs.Jobs.{Ready, Ran};
 
@@ -20,7 +18,6 @@ use cap_shares::{SessionSeat, SharedCategory};
 use cap_terms::RuleSet;
 use std::alloc::Global;
 use std::sync::Wait;
-use std::thread::{Threads, join};
 
 /// What all sessions have in common: the rules, what stands behind the prelude, and the categories.
 #[derive(Clone, Copy)]
@@ -45,8 +42,8 @@ pub(crate) struct Ended {
     pub(crate) trace: Trace<ObjData, MorData>,
 }
 
-/// Runs a session in this thread.
-fn run_job<R: Wait, G: Gate>(
+/// Runs a session at shared categories, in this thread.
+pub(crate) fn run_job<R: Wait, G: Gate>(
     rt: &R,
     alloc: Global,
     gate: &G,
@@ -71,35 +68,4 @@ fn run_job<R: Wait, G: Gate>(
     let trace = run_session(alloc, common.rules, &mut course, commands, session, gate)?;
     let row = stand_up(alloc, course.seats)?;
     Ok(Ended { row, trace })
-}
-
-/// Runs each session in a thread of its own, or one after another where no thread can be made.
-pub(crate) fn run_jobs<R: Threads + Wait + Sync, G: Gate>(
-    rt: &R,
-    alloc: Global,
-    gate: &G,
-    common: Common,
-    mut jobs: Vec<Job>,
-) -> Result<Vec<Ended>, NoMemory>
-    requires rules { common.rules.now ≡ rule_table }
-    requires ready { All (Ready common.standing.now common.categories.now) jobs.items }
-    ensures { IfOk result (λ all. AllZip (Ran common.entry.standing.now common.entry.categories.now) jobs.entry.items all.items) }
-{
-    let Some(last) = jobs.pop() else {
-        return Ok(Vec::new(alloc));
-    };
-    let (ended, before) = join(
-        rt,
-        move || -> Result<Ended, NoMemory>
-            requires { (common.rules.now ≡ rule_table) × Ready common.standing.now common.categories.now last }
-            ensures { IfOk result (λ e. Ran common.entry.standing.now common.entry.categories.now last.entry e) }
-        { run_job(rt, alloc, gate, common, last) },
-        move || -> Result<Vec<Ended>, NoMemory>
-            requires { IsSync R.row × IsSync G.row × (common.rules.now ≡ rule_table) × All (Ready common.standing.now common.categories.now) jobs.items }
-            ensures { IfOk result (λ all. AllZip (Ran common.entry.standing.now common.entry.categories.now) jobs.entry.items all.items) }
-        { run_jobs(rt, alloc, gate, common, jobs) },
-    );
-    let mut all = before?;
-    all.push(ended?)?;
-    Ok(all)
 }

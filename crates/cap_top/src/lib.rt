@@ -8,7 +8,6 @@ mod plain;
 mod plan;
 mod program;
 mod refusals;
-mod run;
 mod running;
 
 pub use check::cap_check;
@@ -17,7 +16,6 @@ pub use outcome::{Outcome, Status, no_report};
 pub use plain::cap_plain;
 pub use plan::cap_plan;
 pub use program::cap;
-pub use run::text;
 
 #[cfg(test)]
 mod tests;
