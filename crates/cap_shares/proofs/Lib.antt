@@ -1,3 +1,4 @@
 pub mod Short
 pub mod Splitting
 pub mod Joining
+pub mod Growing
