@@ -53,7 +53,7 @@ hand-seated session (s ∷ seats) (suc n) = hand-seated session seats n
 -- a session that has run its job
 module _ (S : Standing) (between : List AtSeat) (are : AreSeats prelude_session S between) (rest ks : List Shared) (n : ℕ) (p : CheckedSession) (job : Job) (e : Ended) (is : IsJob n ks p job)
     (seats : AllZip (Reseats job.session) between (seats_of rest job)) (r : Ran S rest job e) where
-  start : List AtSeat
+  abbrev start : List AtSeat
   start = seated job.session (seats_of rest job)
 
   start-are : AreSeats job.session S start
@@ -265,11 +265,11 @@ module _ (S : Standing) (between : List AtSeat) (are : AreSeats prelude_session 
     many = many;
   }
 
+module _ (between : List AtSeat) (all left : ℕ) (ks ks2 : List Shared) (shared : AllZip (IsSharedOf all) between ks) (ends : List (List AtSeat)) (joins : JoinAll (map (fewer_by left) ks) (rows_at_end ends) ks2) where
   -- all shares are back
   pub whole-again : all ≡ left + 1 → length ends ≡ left → (c : ℕ) (k : Shared) → slice_get ks2 c ≡ Some k → IsWholeAgain k
   whole-again total rows c k there =
       let a = at-some between c (omega (arith, is-within ks2 c k there, joins.0, length-map ks (fewer_by left), zip-long (IsSharedOf all) between ks shared)) in
-      let t = at-place c a.0 a.1 in
       let here = zip-get (IsSharedOf all) between ks c a.0 shared a.1 in
       let given : slice_get (map (fewer_by left) ks) c ≡ Some (fewer_by left here.0) = slice_get-map (fewer_by left) ks c ∙ ap (option_map (fewer_by left)) here.1 in
       let second = joins.1 c (fewer_by left here.0) given in

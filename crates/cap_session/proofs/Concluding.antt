@@ -170,7 +170,7 @@ module _ (form : Checked) (fits : FormFits form) (literals : LiteralsFit form) (
           few-joined = omega (arith, joins.0, length-map ks (fewer_by (length sessions)), zip-long (IsSharedOf (n + 1)) between ks shared, few-between)
 
           pub all-whole : All IsWholeAgain ks2
-          all-whole = all-from-get IsWholeAgain ks2 (whole-again S between are-behind (n + 1) (length sessions) ks ks2 shared whole-ran.ends whole-ran.long joins-there (omega (arith, many)) many-ended)
+          all-whole = all-from-get IsWholeAgain ks2 (whole-again between (n + 1) (length sessions) ks ks2 shared whole-ran.ends joins-there (omega (arith, many)) many-ended)
 
           module _ (zs : List AtSeat) (closed : AllZip IsClosedAs ks2 zs) where
             pub few-closed : length zs ≤ 256
