@@ -30,7 +30,7 @@ fn main(rt: HostRuntime) -> ExitCode {
         Ok(words) => {
             let mut source = StdSource::new(rt.stdin());
             let mut sink = StdSink::new(rt.stdout());
-            cap(rt.alloc(), &words, &mut source, &mut sink, &OpenGate).status
+            cap(&rt, rt.alloc(), &words, &mut source, &mut sink, &OpenGate).status
         }
         Err(status) => status,
     };

@@ -1,5 +1,5 @@
 -- Where nothing but an answer can be said, a run ends with Ok, unless memory runs out.
-use Rattle.std.proofs.Common.{◌≡◌, ℕ, ◌≤◌, ◌<◌, List, [], ◌++◌, length, Option, Some, None, inl, inr, refl, sym, ap, ◌∙◌, subst, arith}
+use Rattle.std.proofs.Common.{◌≡◌, ℕ, Bool, ◌≤◌, ◌<◌, List, [], ◌++◌, length, Option, Some, None, inl, inr, refl, sym, ap, ◌∙◌, subst, arith}
 use Rattle.std.specs.Io.KnownBytes.{Consumes, IsAtEnd}
 use Rattle.std.proofs.lemmas.List.{append-nil, length-append}
 use Rattle.cap_ops.proofs.Places.{none≢some, some_inner}
@@ -12,7 +12,7 @@ use Rattle.cap_judge.specs.Judged.{AreAccepted}
 use Rattle.cap_top.specs.declared.judging.Said.{Said}
 use Rattle.cap_top.specs.declared.judging.Said.TheVariants.{Answered, Rejected, Refused}
 use Rattle.cap_top.specs.declared.outcome.Status.TheVariants.{Ok, Rejected as status_rejected, Usage, ReadFault, WriteFault, TooLong, BadScript, NoMemory}
-use Rattle.cap_top.specs.Judged.{Judging, said_of, IsPlainJudged, IsPlanJudged, IsCheckJudged}
+use Rattle.cap_top.specs.Judged.{Judging, said_of, IsRunJudged, IsPlainJudged, IsPlanJudged, IsCheckJudged}
 use Rattle.cap_top.specs.Run.{Outside, byte_limit, IsRun}
 use Rattle.cap_said_laws.specs.Laws.{TellsAndWorks, IsComplete, IsBuiltText}
 use Rattle.cap_said_laws.proofs.Faults.{built_or_reason}
@@ -47,6 +47,11 @@ module _ (says : Judging) (Fine : List ℕ → Type 0) (only : (bytes : List ℕ
   complete before after ReadFault report bytes fine t run = absurd (t.reads run.risen)
   complete before after Usage report bytes fine t run = absurd run
 
+run_only : (log : Bool) (bytes : List ℕ) → IsBuiltText bytes → (said : Said) (text : List ℕ) (r : Report ObjData MorData) → IsRunJudged log bytes said text r → said ≡ Answered
+run_only log bytes fine Answered text r h = refl
+run_only log bytes fine Refused text r h = absurd (built_or_reason bytes fine.form h.bad fine.sound fine.built h.why)
+run_only log bytes fine Rejected text r h = absurd h
+
 plain_only : (bytes : List ℕ) → IsBuiltText bytes → (said : Said) (text : List ℕ) (r : Report ObjData MorData) → IsPlainJudged bytes said text r → said ≡ Answered
 plain_only bytes fine Answered text r h = refl
 plain_only bytes fine Refused text r h = absurd (built_or_reason bytes fine.form h.bad fine.sound fine.built h.why)
@@ -59,6 +64,9 @@ plan_only bytes fine Rejected text r h = absurd h
 
 check_only : (bytes : List ℕ) → AreAccepted bytes → (said : Said) (text : List ℕ) (r : Report ObjData MorData) → IsCheckJudged bytes said text r → said ≡ Answered
 check_only bytes fine said text r h = h.said_is ∙ ap said_of (one_judgement bytes h.judgement Accepted h.is fine)
+
+pub run_complete : (log : Bool) → IsComplete IsBuiltText (IsRun (IsRunJudged log))
+run_complete log = complete (IsRunJudged log) IsBuiltText (run_only log)
 
 pub plain_complete : IsComplete IsBuiltText (IsRun IsPlainJudged)
 plain_complete = complete IsPlainJudged IsBuiltText plain_only

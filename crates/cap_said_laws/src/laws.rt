@@ -1,7 +1,8 @@
 // The laws of what is said of an input, and of how a run ends, each a call that does nothing.
+ghost use Rattle.std.specs.Prelude.{true, false};
 ghost use Rattle.cap_judge.specs.Judged.{AreAccepted};
 ghost use Rattle.cap_top.specs.Judged.{IsPlanJudged, IsCheckJudged};
-ghost use Rattle.cap_top.specs.Run.{IsPlainRun, IsPlanRun, IsCheckRun, IsUsageRun};
+ghost use Rattle.cap_top.specs.Run.{IsThreadsRun, IsPlainRun, IsPlanRun, IsCheckRun, IsUsageRun};
 ghost use Rattle.cap_said_laws.specs.Laws.{OneCertificates, SaysOneThing, PlainSaysOneThing, TellsFaults, IsComplete, IsBuiltText};
 
 /// The certificates of a prelude are one text at most.
@@ -25,9 +26,11 @@ pub fn law_check_says_one_thing()
     ensures { SaysOneThing IsCheckJudged }
 {}
 
-/// A run that waits for nobody ends with ReadFault exactly where the source's count of faults rose, and with WriteFault exactly
+/// A run ends with ReadFault exactly where the source's count of faults rose, and with WriteFault exactly
 /// where the sink's did, as long as the counts are below 2^64 - 1.
 pub fn law_status_tells_faults()
+    ensures run { TellsFaults (IsThreadsRun false) }
+    ensures log { TellsFaults (IsThreadsRun true) }
     ensures plain { TellsFaults IsPlainRun }
     ensures plan { TellsFaults IsPlanRun }
     ensures check { TellsFaults IsCheckRun }
@@ -37,6 +40,8 @@ pub fn law_status_tells_faults()
 /// Where the source tells its bytes, at most 1,048,576, no call of source or sink fails, and the bytes are a script without faults
 /// whose kinds are built (for `check`: certificates without a false line), a command ends with Ok, unless memory runs out.
 pub fn law_commands_are_complete()
+    ensures run { IsComplete IsBuiltText (IsThreadsRun false) }
+    ensures log { IsComplete IsBuiltText (IsThreadsRun true) }
     ensures plain { IsComplete IsBuiltText IsPlainRun }
     ensures plan { IsComplete IsBuiltText IsPlanRun }
     ensures check { IsComplete AreAccepted IsCheckRun }

@@ -1,5 +1,7 @@
 -- Sessions at shared categories, before and after they ran.
-use Rattle.std.specs.Prelude.{◌≡◌, ℕ, ◌≤◌, List, [], length, map}
+use Rattle.std.specs.Prelude.{◌≡◌, ℕ, ◌≤◌, List, [], ◌∷◌, ◌++◌, length, map, Result, Ok, Err, Vec}
+use Rattle.std.specs.List.{All}
+use Rattle.cap_names.specs.declared.faults.NoMemory.{NoMemory}
 use Rattle.cap_names.specs.declared.identifiers.SessionNo.{SessionNo}
 use Rattle.cap_check.specs.Unbuilt.{CheckedPart}
 use Rattle.cap_fitting.specs.Forms.{behind_commands}
@@ -12,8 +14,9 @@ use Rattle.cap_traces.specs.Chains.{Chain}
 use Rattle.cap_traces.specs.Runs.{seated}
 use Rattle.cap_session.specs.declared.jobs.Job.{Job}
 use Rattle.cap_session.specs.declared.jobs.Ended.{Ended}
+use Rattle.cap_session.specs.declared.jobs.Seated.{Seated}
 use Rattle.cap_session.specs.Courses.{CommandsFit}
-use Rattle.cap_session.specs.Places.{AllFit, sat_down, stood}
+use Rattle.cap_session.specs.Places.{AllFit, HoldsThere, sat_down, stood}
 
 -- where the session sits down
 abbrev pub seats_of : List Shared → Job → List AtSeat
@@ -38,3 +41,38 @@ pub record Ran (S : Standing) (ks : List Shared) (job : Job) (e : Ended) : Type 
   pub behind : Standing
   pub chain : Chain IsAnything job.session S (seated job.session (seats_of ks job)) (map (λ c. c.node) job.commands.now) e.trace.events (map (λ d. d.answer) e.trace.done) behind ended
   pub are : AreSeats job.session S ended
+
+-- the sessions that ran before and the last one, where all have run
+abbrev pub HaveBoth : {A : Type 0} → Result (Vec Ended A) NoMemory → Result Ended NoMemory → List Ended → Type 0
+HaveBoth (Ok before) (Ok last) all = all ≡ before.items ++ last ∷ []
+HaveBoth _ _ all = ⊥
+
+-- a session can sit down at the categories
+pub record CanSit (ks : List Shared) (job : Job) : Type 0 where
+  pub few : length job.row.items ≤ 256
+  pub fits : AllFit ks job.row.items
+  pub holds : All HoldsThere (seats_of ks job)
+
+-- it has sat down
+pub record SatDown (ks : List Shared) (job : Job) (s : Seated AtSeat) : Type 0 where
+  pub session : s.session ≡ job.session
+  pub commands : s.commands.now ≡ job.commands.now
+  pub seats : s.seats.items ≡ seats_of ks job
+
+-- it may run: its commands fit, and the names of the prelude agree with what stands
+pub record MayRun (S : Standing) (s : Seated AtSeat) : Type 0 where
+  pub few : length s.commands.now ≤ 4096
+  pub are : AreSeats s.session S s.seats.items
+  pub prelude : List CheckedPart
+  pub fit : CommandsFit prelude s.commands.now
+  pub agrees : Agrees (behind_commands prelude []) S (telling s.seats.items)
+
+-- it has run, among others of which nothing is known, and its seats are free again
+pub record HasRunAs (S : Standing) (s : Seated AtSeat) (e : Ended) : Type 0 where
+  pub ended : List AtSeat
+  pub row : e.row.items ≡ map stood ended
+  pub number : e.trace.session ≡ s.session
+  pub counted : CountFrom 0 e.trace.done
+  pub behind : Standing
+  pub chain : Chain IsAnything s.session S (seated s.session s.seats.items) (map (λ c. c.node) s.commands.now) e.trace.events (map (λ d. d.answer) e.trace.done) behind ended
+  pub are : AreSeats s.session S ended

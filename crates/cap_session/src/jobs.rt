@@ -1,11 +1,13 @@
-// A session at shared categories.
-ghost use Rattle.std.specs.Prelude.{◌≡◌, IfOk};
+// Sessions at shared categories, each in a thread.
+ghost use Rattle.std.specs.Prelude.{◌≡◌, [], IfOk};
+ghost use Rattle.std.specs.List.{All, AllZip};
+ghost use Rattle.std.specs.Thread.{IsSync};
 ghost use Rattle.cap_rules.specs.Table.{rule_table};
-ghost use Rattle.cap_session.specs.Jobs.{Ready, Ran};
+ghost use Rattle.cap_session.specs.Jobs.{CanSit, SatDown, MayRun, HasRunAs, HaveBoth};
 
 use crate::answers::copy_standing;
 use crate::course::Course;
-use crate::places::{sit_down, stand_up};
+use crate::places::{SharedSeat, sit_down, stand_up};
 use crate::sessions::run_session;
 use cap_checked::CheckedObj;
 use cap_data::{MorData, ObjData};
@@ -18,21 +20,29 @@ use cap_shares::{SessionSeat, SharedCategory};
 use cap_terms::RuleSet;
 use std::alloc::Global;
 use std::sync::Wait;
+use std::thread::{Threads, join};
 
-/// What all sessions have in common: the rules, what stands behind the prelude, and the categories.
+/// What all sessions have in common: the rules, and what stands behind the prelude.
 #[derive(Clone, Copy)]
 pub(crate) struct Common<'t> {
     pub(crate) rules: &'t RuleSet,
     pub(crate) standing: &'t Situation<AnyCat, (), MorData>,
-    pub(crate) categories: &'t [SharedCategory],
 }
 
-/// A session that is to run: its number, its commands, and its seat at each category.
+/// A session that is to run: its number, its commands, and its seat at each category's turn.
 #[derive(Drop)]
 pub(crate) struct Job<'t> {
     pub(crate) session: SessionNo,
     pub(crate) commands: &'t [Placed<Command<CheckedObj, MorLit>>],
     pub(crate) row: Vec<SessionSeat>,
+}
+
+/// A session that has sat down at the categories.
+#[derive(Drop)]
+pub(crate) struct Seated<'t, S> {
+    pub(crate) session: SessionNo,
+    pub(crate) commands: &'t [Placed<Command<CheckedObj, MorLit>>],
+    pub(crate) seats: Vec<S>,
 }
 
 /// A session that has run: its seats, and its trace.
@@ -42,30 +52,111 @@ pub(crate) struct Ended {
     pub(crate) trace: Trace<ObjData, MorData>,
 }
 
-/// Runs a session at shared categories, in this thread.
-pub(crate) fn run_job<R: Wait, G: Gate>(
-    rt: &R,
+/// Lets each session sit down at the categories.
+pub(crate) fn seat_all<'t, R: Wait, G: Gate>(
+    rt: &'t R,
+    alloc: Global,
+    gate: &'t G,
+    categories: &'t [SharedCategory],
+    mut jobs: Vec<Job<'t>>,
+) -> Result<Vec<Seated<'t, SharedSeat<'t, R, G>>>, NoMemory>
+    requires { All (CanSit categories.now) jobs.items }
+    ensures { IfOk result (λ all. AllZip (SatDown categories.now) jobs.entry.items all.items) }
+{
+    let Some(
+        Job {
+            session,
+            commands,
+            row,
+        },
+    ) = jobs.pop()
+    else {
+        return Ok(Vec::new(alloc));
+    };
+    let mut all = seat_all(rt, alloc, gate, categories, jobs)?;
+    let seats = sit_down(rt, alloc, gate, categories, row, session)?;
+    all.push(Seated {
+        session,
+        commands,
+        seats,
+    })?;
+    Ok(all)
+}
+
+/// Runs a session in this thread.
+fn run_job<'t, R: Wait, G: Gate>(
     alloc: Global,
     gate: &G,
     common: Common,
-    job: Job,
+    job: Seated<'t, SharedSeat<'t, R, G>>,
 ) -> Result<Ended, NoMemory>
     requires rules { common.rules.now ≡ rule_table }
-    requires ready { Ready common.standing.now common.categories.now job }
-    ensures { IfOk result (λ e. Ran common.entry.standing.now common.entry.categories.now job.entry e) }
+    requires ready { MayRun common.standing.now job }
+    ensures { IfOk result (λ e. HasRunAs common.entry.standing.now job.entry e) }
 {
-    let Job {
+    let Seated {
         session,
         commands,
-        row,
+        seats,
     } = job;
     let mut course = Course {
         standing: copy_standing(alloc, common.standing)?,
-        seats: sit_down(rt, alloc, gate, common.categories, row, session)?,
+        seats,
         events: Vec::new(alloc),
         done: Vec::new(alloc),
     };
     let trace = run_session(alloc, common.rules, &mut course, commands, session, gate)?;
     let row = stand_up(alloc, course.seats)?;
     Ok(Ended { row, trace })
+}
+
+/// The sessions that have run, and one more behind them.
+fn with_last(
+    before: Result<Vec<Ended>, NoMemory>,
+    last: Result<Ended, NoMemory>,
+) -> Result<Vec<Ended>, NoMemory>
+    ensures { IfOk result (λ all. HaveBoth before last all.items) }
+{
+    let mut all = before?;
+    all.push(last?)?;
+    Ok(all)
+}
+
+/// Where no session is left, nobody has run.
+fn nobody<'t, R: Wait, G: Gate>(
+    alloc: Global,
+    _none: Vec<Seated<'t, SharedSeat<'t, R, G>>>,
+) -> Vec<Ended>
+    ensures { result.items ≡ [] }
+{
+    Vec::new(alloc)
+}
+
+/// Runs each session in a thread of its own, or one after another where no thread can be made.
+pub(crate) fn run_jobs<'t, R: Threads + Wait + Sync, G: Gate>(
+    rt: &R,
+    alloc: Global,
+    gate: &G,
+    common: Common,
+    mut jobs: Vec<Seated<'t, SharedSeat<'t, R, G>>>,
+) -> Result<Vec<Ended>, NoMemory>
+    requires rules { common.rules.now ≡ rule_table }
+    requires ready { All (MayRun common.standing.now) jobs.items }
+    ensures { IfOk result (λ all. AllZip (HasRunAs common.entry.standing.now) jobs.entry.items all.items) }
+{
+    let Some(last) = jobs.pop() else {
+        return Ok(nobody(alloc, jobs));
+    };
+    let (ended, before) = join(
+        rt,
+        move || -> Result<Ended, NoMemory>
+            requires { (common.rules.now ≡ rule_table) × MayRun common.standing.now last }
+            ensures { IfOk result (λ e. HasRunAs common.entry.standing.now last.entry e) }
+        { run_job(alloc, gate, common, last) },
+        move || -> Result<Vec<Ended>, NoMemory>
+            requires { IsSync R.row × IsSync G.row × (common.rules.now ≡ rule_table) × All (MayRun common.standing.now) jobs.items }
+            ensures { IfOk result (λ all. AllZip (HasRunAs common.entry.standing.now) jobs.entry.items all.items) }
+        { run_jobs(rt, alloc, gate, common, jobs) },
+    );
+    with_last(before, ended)
 }

@@ -13,9 +13,11 @@ mod sessions;
 mod shares;
 #[cfg(test)]
 mod tests;
+mod threads;
 mod turn_desk;
 
 pub use cap_report::{Done, History, LineAnswer, LineRefusal, Report, Trace};
 pub use gated::Gated;
 pub use plain::run_plain;
+pub use threads::run_sessions;
 pub use turn_desk::TurnDesk;

@@ -1,5 +1,5 @@
 -- What each command says of the bytes of a whole input, with which text and which report.
-use Rattle.std.specs.Prelude.{◌≡◌, ℕ, ◌≤◌, List, [], length}
+use Rattle.std.specs.Prelude.{◌≡◌, ℕ, ◌≤◌, Bool, true, false, List, [], ◌++◌, length}
 use Rattle.cap_names.specs.declared.reasons.BadScript.{BadScript}
 use Rattle.cap_checked.specs.declared.tree.Checked.{Checked}
 use Rattle.cap_check.specs.Unbuilt.{CheckedPart, unbuilt}
@@ -11,7 +11,8 @@ use Rattle.cap_judge.specs.Judged.{AreAccepted, IsJudgement, judgement_text}
 use Rattle.cap_data.specs.declared.data.ObjData.{ObjData}
 use Rattle.cap_data.specs.declared.data.MorData.{MorData}
 use Rattle.cap_report.specs.declared.report.Report.{Report}
-use Rattle.cap_session.specs.Reports.{IsPlainReport}
+use Rattle.cap_session.specs.Reports.{IsPlainReport, IsRunReport}
+use Rattle.cap_top_log.specs.Log.{log_text}
 use Rattle.cap_top_text.specs.Text.{report_text}
 use Rattle.cap_top.specs.declared.judging.Said.{Said}
 use Rattle.cap_top.specs.declared.judging.Said.TheVariants.{Answered, Rejected, Refused}
@@ -42,6 +43,25 @@ abbrev pub IsPlainJudged : Judging
 IsPlainJudged bytes Answered text report = IsAnsweredPlain bytes text report
 IsPlainJudged bytes Refused text report = IsRefusedText bytes text report
 IsPlainJudged bytes Rejected text report = ⊥
+
+-- the text of a run, and behind it, where it is asked for, the log of each category
+abbrev pub whole_text : Bool → Checked → Report ObjData MorData → List ℕ
+whole_text false form report = report_text form report
+whole_text true form report = report_text form report ++ log_text form.prelude report
+
+-- `cap run` answers a script without faults whose kinds are built: the report accounts for it, in whatever order its sessions took turns, its histories are right, and the text is that of the report
+pub record IsAnsweredRun (log : Bool) (bytes text : List ℕ) (report : Report ObjData MorData) : Type 0 where
+  pub form : Checked
+  pub sound : IsSoundText bytes form
+  pub built : unbuilt form.prelude ≡ []
+  pub ran : IsRunReport form report
+  pub text_is : text ≡ whole_text log form report
+
+-- `cap run`, and with the log `cap run --log`
+abbrev pub IsRunJudged : Bool → Judging
+IsRunJudged log bytes Answered text report = IsAnsweredRun log bytes text report
+IsRunJudged log bytes Refused text report = IsRefusedText bytes text report
+IsRunJudged log bytes Rejected text report = ⊥
 
 -- the text is the certificates of the categories, in order; where there are some, they are accepted by the judge of certificates
 pub record AreCertified (parts : List CheckedPart) (text : List ℕ) : Type 0 where

@@ -1,5 +1,5 @@
 -- What a run of the program has done, seen from outside.
-use Rattle.std.specs.Prelude.{◌≡◌, ℕ, ◌≤◌, ◌⊎◌, List, length, Option, codes}
+use Rattle.std.specs.Prelude.{◌≡◌, ℕ, ◌≤◌, ◌⊎◌, Bool, List, length, Option, codes}
 use Rattle.cap_data.specs.declared.data.ObjData.{ObjData}
 use Rattle.cap_data.specs.declared.data.MorData.{MorData}
 use Rattle.cap_report.specs.declared.report.Report.{Report}
@@ -12,7 +12,7 @@ use Rattle.cap_top.specs.declared.outcome.Status.{Status}
 use Rattle.cap_top.specs.declared.outcome.Status.TheVariants.{Ok, Rejected, Usage, ReadFault, WriteFault, TooLong, BadScript, NoMemory}
 use Rattle.cap_top.specs.declared.judging.Said.{Said}
 use Rattle.cap_top.specs.declared.judging.Said.TheVariants as said
-use Rattle.cap_top.specs.Judged.{Judging, IsPlainJudged, IsPlanJudged, IsCheckJudged}
+use Rattle.cap_top.specs.Judged.{Judging, IsRunJudged, IsPlainJudged, IsPlanJudged, IsCheckJudged}
 use Rattle.cap_top.specs.Reports.{no_report}
 
 -- how many bytes a script may have
@@ -119,6 +119,10 @@ IsRun says before after WriteFault report = WroteFront says before after report
 IsRun says before after ReadFault report = ReadFailed before after report
 IsRun says before after NoMemory report = RanOut before after report
 IsRun says before after Usage report = ⊥
+
+-- what `cap run` does, and with the log `cap run --log`
+abbrev pub IsThreadsRun : Bool → Outside → Outside → Status → Report ObjData MorData → Type 0
+IsThreadsRun log before after status report = IsRun (IsRunJudged log) before after status report
 
 -- what `cap plain`, `cap plan` and `cap check` do
 abbrev pub IsPlainRun : Outside → Outside → Status → Report ObjData MorData → Type 0

@@ -8,6 +8,7 @@ mod plain;
 mod plan;
 mod program;
 mod refusals;
+mod run;
 mod running;
 
 pub use check::cap_check;
@@ -16,6 +17,7 @@ pub use outcome::{Outcome, Status, no_report};
 pub use plain::cap_plain;
 pub use plan::cap_plan;
 pub use program::cap;
+pub use run::text;
 
 #[cfg(test)]
 mod tests;

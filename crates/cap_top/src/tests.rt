@@ -1,3 +1,4 @@
+mod gates;
 mod scripts;
 
 use super::*;
@@ -6,7 +7,9 @@ use cap_io::{MemSink, MemSource, OpenGate, SureSink, SureSource};
 use cap_report::Report;
 use std::alloc::Global;
 use std::process::Abort;
+use std::sync::Wait;
 use std::test::Fail;
+use std::thread::Threads;
 
 // The script of the first example: the kernel of a matrix of rank 1.
 const EXAMPLE: &str =
@@ -24,8 +27,8 @@ fn is_of_size(report: &Report<ObjData, MorData>, histories: usize, answers: &[us
     same
 }
 
-// `cap plain` on an input answers this status and writes this text, and so does `cap` on the word `plain`.
-fn answers(
+// `cap plain` on an input answers this status and writes this text.
+fn answers_plain(
     rt: &impl Abort,
     alloc: Global,
     input: &str,
@@ -37,13 +40,20 @@ fn answers(
     let outcome = cap_plain(alloc, &mut source, &mut sink, &OpenGate);
     assert_eq!(rt; outcome.status, status, "at {input}");
     assert!(rt; sink.bytes() == output.as_bytes(), "at {input}");
-    let mut source = SureSource::new(input.as_bytes().to_vec(alloc)?);
-    let mut sink = SureSink::new(alloc)?;
-    let words = vec![in alloc; String::from_str(alloc, "plain")?]?;
-    let outcome = cap(alloc, &words, &mut source, &mut sink, &OpenGate);
-    assert_eq!(rt; outcome.status, status, "at {input}");
-    assert!(rt; sink.bytes() == output.as_bytes(), "at {input}");
     Ok(())
+}
+
+// `cap plain` on an input answers this status and writes this text, and so does `cap` on the words `plain` and `run`.
+fn answers<R: Abort + Threads + Wait + Sync>(
+    rt: &R,
+    alloc: Global,
+    input: &str,
+    status: Status,
+    output: &str,
+) -> Result<(), Fail> {
+    answers_plain(rt, alloc, input, status, output)?;
+    word_answers(rt, alloc, "plain", input, status, output)?;
+    word_answers(rt, alloc, "run", input, status, output)
 }
 
 #[test]
@@ -118,7 +128,8 @@ fn the_examples_are_run(rt: HostRuntime) -> Result<(), Fail> {
     for (input, output) in examples {
         answers(&rt, rt.alloc(), input, Status::Ok, output)?;
     }
-    Ok(())
+    let (input, output) = scripts::NAME_THAT_ANOTHER_SESSION_TOOK;
+    answers_plain(&rt, rt.alloc(), input, Status::Ok, output)
 }
 
 #[test]
@@ -165,7 +176,7 @@ fn no_words_give_the_usage_line(rt: HostRuntime) -> Result<(), Fail> {
     let mut source = SureSource::new(EXAMPLE.as_bytes().to_vec(rt.alloc())?);
     let mut sink = SureSink::new(rt.alloc())?;
     let words = Vec::new(rt.alloc());
-    let outcome = cap(rt.alloc(), &words, &mut source, &mut sink, &OpenGate);
+    let outcome = cap(&rt, rt.alloc(), &words, &mut source, &mut sink, &OpenGate);
     assert_eq!(rt; outcome.status.number(), 2);
     assert!(rt; is_of_size(&outcome.report, 0, &[]));
     assert!(rt;
@@ -228,8 +239,8 @@ const REGISTERED: &str =
     "V: vec 5\nV registers Identity 1\nV registers Compose 1\nV registers Zero 1\nV registers Add 1\nV registers Scale 1\nV registers IsCongruent 2\nV registers DirectSum 5\nV registers Kernel 20\nV registers Lift 20\nV final\n";
 
 // What a word of the program answers to an input: this status and this text.
-fn word_answers(
-    rt: &impl Abort,
+fn word_answers<R: Abort + Threads + Wait + Sync>(
+    rt: &R,
     alloc: Global,
     word: &str,
     input: &str,
@@ -239,7 +250,7 @@ fn word_answers(
     let mut source = SureSource::new(input.as_bytes().to_vec(alloc)?);
     let mut sink = SureSink::new(alloc)?;
     let words = vec![in alloc; String::from_str(alloc, word)?]?;
-    let outcome = cap(alloc, &words, &mut source, &mut sink, &OpenGate);
+    let outcome = cap(rt, alloc, &words, &mut source, &mut sink, &OpenGate);
     assert_eq!(rt; outcome.status, status, "at {input}");
     assert!(rt; sink.bytes() == output.as_bytes(), "at {input}");
     Ok(())
@@ -320,7 +331,7 @@ fn certificates_are_accepted_rejected_or_refused(rt: HostRuntime) -> Result<(), 
         let mut source = SureSource::new(input.as_bytes().to_vec(alloc)?);
         let mut sink = SureSink::new(alloc)?;
         let words = vec![in alloc; String::from_str(alloc, "check")?]?;
-        let outcome = cap(alloc, &words, &mut source, &mut sink, &OpenGate);
+        let outcome = cap(&rt, alloc, &words, &mut source, &mut sink, &OpenGate);
         assert_eq!(rt; outcome.status, status, "at {pullback}");
         assert!(rt; sink.bytes() == output.as_bytes(), "at {pullback}");
     }

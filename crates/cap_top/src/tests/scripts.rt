@@ -329,8 +329,48 @@ e ! Shape 1
 ",
 );
 
-// A name of an object is the category's: the second session finds it taken, or is given the same object.
+// A name of an object is the category's: both sessions are given the same objects, under numbers of their own.
 pub const NAMES_IN_TWO_SESSIONS: Example = (
+    "\
+category V vec 11
+register V Compose
+finalise V
+session first
+object V a = 2
+object V b = 1
+let f = V a -> b [1; 3]
+end
+session second
+object V b = 1
+object V a = 2
+let g = V b -> b [-1]
+let h = V Compose g g
+let x = src h
+end
+",
+    "\
+V: vec 11
+V registers Compose 1
+V final
+session first
+V#1: 2
+a = V#1
+V#2: 1
+b = V#2
+f = V#1 -> V#2 [1; 3]
+session second
+V#1: 1
+b = V#1
+V#2: 2
+a = V#2
+g = V#1 -> V#1 [10]
+h = V#1 -> V#1 [1]
+x = V#1
+",
+);
+
+// A name of an object is the category's: the session that comes later finds it taken.
+pub const NAME_THAT_ANOTHER_SESSION_TOOK: Example = (
     "\
 category V vec 11
 register V Compose
