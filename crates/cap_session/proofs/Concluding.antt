@@ -38,13 +38,15 @@ use Rattle.cap_traces.specs.Runs.{prelude_session, seated, ItemsRun, histories_f
 use Rattle.cap_session.specs.declared.course.Course.{Course}
 use Rattle.cap_session.specs.declared.jobs.Job.{Job}
 use Rattle.cap_session.specs.declared.jobs.Ended.{Ended}
+use Rattle.cap_session.specs.declared.jobs.Seated.{Seated}
 use Rattle.cap_session.specs.Courses.{Hands}
-use Rattle.cap_session.specs.Jobs.{Ready, Ran, seats_of}
+use Rattle.cap_session.specs.Jobs.{Ready, Ran, CanSit, SatDown, MayRun, HasRunAs, seats_of}
 use Rattle.cap_session.specs.Places.{sat_down, stood}
 use Rattle.cap_session.specs.Preludes.{RunsParts}
 use Rattle.cap_session.specs.Reports.{IsReport, IsRunReport}
 use Rattle.cap_session.specs.Shares.{IsSharedOf, fewer_by, IsJob, JobsFrom, rows_of, traces_of, Returns, JoinAll, IsWholeAgain, IsClosedAs}
 use Rattle.cap_session.proofs.Ends.{zip-long, zip-get}
+use Rattle.cap_session.proofs.Jobbing.{IsNumbered, all-can-sit, all-numbered, all-may-run, all-ran-as}
 use Rattle.cap_session.proofs.Reseating.{all-ready, job-seats}
 use Rattle.cap_session.proofs.AtOnce.{AllRan, rows_at_end, all-ran, as-many, many-closed, at-end, whole-again, hand-seated}
 
@@ -151,6 +153,19 @@ module _ (form : Checked) (fits : FormFits form) (literals : LiteralsFit form) (
     module _ (jobs : List Job) (made : JobsFrom 1 ks sessions jobs) where
       pub jobs-ready : All (Ready S Rest) jobs
       jobs-ready = all-ready form fits literals S between are-behind agrees-behind (omega (arith, few-between)) (n + 1) (length sessions) ks shared [] form.sessions refl 1 jobs (subst (λ ps. JobsFrom 1 ks ps jobs) are_sessions made)
+
+      pub jobs-can-sit : All (CanSit Rest) jobs
+      jobs-can-sit = all-can-sit sessions S Rest jobs jobs-ready
+
+      numbered : All (IsNumbered sessions) jobs
+      numbered = all-numbered ks [] sessions jobs made
+
+      module _ (seats : List (Seated AtSeat)) (sat : AllZip (SatDown Rest) jobs seats) where
+        pub sessions-may-run : All (MayRun sessions S) seats
+        sessions-may-run = all-may-run sessions S Rest jobs seats numbered jobs-ready sat
+
+        pub sessions-ran : (ended : List Ended) → AllZip (HasRunAs sessions S) seats ended → AllZip (Ran S Rest) jobs ended
+        sessions-ran ended has = all-ran-as sessions S Rest jobs seats ended numbered sat has
 
       module _ (ended : List Ended) (did : AllZip (Ran S Rest) jobs ended) where
         pub rows-return : All (Returns Rest) (rows_of ended)

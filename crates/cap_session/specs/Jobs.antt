@@ -1,10 +1,10 @@
 -- Sessions at shared categories, before and after they ran.
-use Rattle.std.specs.Prelude.{◌≡◌, ℕ, ◌≤◌, List, [], ◌∷◌, ◌++◌, length, map, Result, Ok, Err, Vec}
+use Rattle.std.specs.Prelude.{◌≡◌, ℕ, ◌-◌, ◌≤◌, List, [], ◌∷◌, ◌++◌, length, map, slice_get, Option, Some, None, Result, Ok, Err, Vec}
 use Rattle.std.specs.List.{All}
 use Rattle.cap_names.specs.declared.faults.NoMemory.{NoMemory}
 use Rattle.cap_names.specs.declared.identifiers.SessionNo.{SessionNo}
 use Rattle.cap_check.specs.Unbuilt.{CheckedPart}
-use Rattle.cap_fitting.specs.Forms.{behind_commands}
+use Rattle.cap_fitting.specs.Forms.{CheckedCommand, CheckedSession, behind_commands}
 use Rattle.cap_accounts.specs.Accounts.{CountFrom}
 use Rattle.cap_commands.specs.Agreement.{Standing, Agrees}
 use Rattle.cap_commands.specs.Seats.{AtSeat, AreSeats, telling}
@@ -56,23 +56,30 @@ pub record CanSit (ks : List Shared) (job : Job) : Type 0 where
 -- it has sat down
 pub record SatDown (ks : List Shared) (job : Job) (s : Seated AtSeat) : Type 0 where
   pub session : s.session ≡ job.session
-  pub commands : s.commands.now ≡ job.commands.now
   pub seats : s.seats.items ≡ seats_of ks job
 
+-- the commands of the session with a number, which counts from 1
+abbrev pub commands_or_none : Option CheckedSession → List CheckedCommand
+commands_or_none None = []
+commands_or_none (Some p) = p.node.commands
+
+abbrev pub commands_at : List CheckedSession → ℕ → List CheckedCommand
+commands_at sessions n = commands_or_none (slice_get sessions (n - 1))
+
 -- it may run: its commands fit, and the names of the prelude agree with what stands
-pub record MayRun (S : Standing) (s : Seated AtSeat) : Type 0 where
-  pub few : length s.commands.now ≤ 4096
+pub record MayRun (sessions : List CheckedSession) (S : Standing) (s : Seated AtSeat) : Type 0 where
+  pub few : length (commands_at sessions s.session.0) ≤ 4096
   pub are : AreSeats s.session S s.seats.items
   pub prelude : List CheckedPart
-  pub fit : CommandsFit prelude s.commands.now
+  pub fit : CommandsFit prelude (commands_at sessions s.session.0)
   pub agrees : Agrees (behind_commands prelude []) S (telling s.seats.items)
 
 -- it has run, among others of which nothing is known, and its seats are free again
-pub record HasRunAs (S : Standing) (s : Seated AtSeat) (e : Ended) : Type 0 where
+pub record HasRunAs (sessions : List CheckedSession) (S : Standing) (s : Seated AtSeat) (e : Ended) : Type 0 where
   pub ended : List AtSeat
   pub row : e.row.items ≡ map stood ended
   pub number : e.trace.session ≡ s.session
   pub counted : CountFrom 0 e.trace.done
   pub behind : Standing
-  pub chain : Chain IsAnything s.session S (seated s.session s.seats.items) (map (λ c. c.node) s.commands.now) e.trace.events (map (λ d. d.answer) e.trace.done) behind ended
+  pub chain : Chain IsAnything s.session S (seated s.session s.seats.items) (map (λ c. c.node) (commands_at sessions s.session.0)) e.trace.events (map (λ d. d.answer) e.trace.done) behind ended
   pub are : AreSeats s.session S ended

@@ -45,6 +45,7 @@ pub fn run_sessions<R: Threads + Wait + Sync, G: Gate>(
     let common = Common {
         rules: &rules,
         standing: &course.standing,
+        sessions,
     };
     let ended = run_jobs(rt, alloc, gate, common, seated)?;
     let traces = join_all(categories.as_mut_slice(), ended, traces)?;
