@@ -1,11 +1,10 @@
 -- A run of sessions at once, from what its parts ensure.
-use Rattle.std.proofs.Common.{◌≡◌, ℕ, zero, suc, ◌+◌, ◌-◌, ◌<◌, ◌≤◌, List, [], ◌∷◌, ◌++◌, length, map, Option, Some, None, refl, sym, ap, ◌∙◌, subst, arith, append-nil}
+use Rattle.std.proofs.Common.{◌≡◌, ℕ, zero, suc, ◌+◌, ◌-◌, ◌<◌, ◌≤◌, List, [], ◌∷◌, length, map, Some, None, refl, sym, ap, ◌∙◌, subst, arith}
 use Rattle.std.specs.Prelude.{slice_get, option_map}
-use Rattle.std.specs.List.{All, AllZip, filter_map}
+use Rattle.std.specs.List.{All, AllZip}
 use Rattle.std.proofs.lemmas.List.{length-map}
 use Rattle.std.proofs.lemmas.List.Elements.{All-nil, All-cons, All-head, All-tail, All-weaker}
 use Rattle.std.proofs.lemmas.Option.{slice_get-map}
-use Rattle.cap_names.specs.declared.identifiers.CatNo.{CatNo}
 use Rattle.cap_names.specs.declared.identifiers.SessionNo.{SessionNo}
 use Rattle.cap_data.specs.declared.data.ObjData.{ObjData}
 use Rattle.cap_data.specs.declared.data.MorData.{MorData}
@@ -17,14 +16,13 @@ use Rattle.cap_offer.specs.Labels.{Label, any_offer}
 use Rattle.cap_ops.proofs.Places.{none≢some, some_inner}
 use Rattle.cap_rules.specs.Table.{rule_table}
 use Rattle.cap_report.specs.declared.report.History.{History}
-use Rattle.cap_report.specs.declared.report.Trace.{Trace}
 use Rattle.cap_report.specs.declared.situation.Made.{Made}
 use Rattle.cap_report.specs.Histories.{history_of}
 use Rattle.cap_accounts.specs.Accounts.{IsHistory}
 use Rattle.cap_commands.specs.Agreement.{Standing}
 use Rattle.cap_commands.specs.Kinds.{kinds}
 use Rattle.cap_commands.specs.Seats.{AtSeat, IsSeat, AreSeats, seen_or_none, hand_or_none, seen_at, hand_at}
-use Rattle.cap_shares.specs.Shares.{Entries, BeginsWith, Shared, AtTurn}
+use Rattle.cap_shares.specs.Shares.{BeginsWith, Shared, AtTurn}
 use Rattle.cap_thread_laws.specs.AtOnce.{IsAnything, SessionRan, SessionsRan, added_at, AreAtEnd}
 use Rattle.cap_traces.specs.Chains.{Chain}
 use Rattle.cap_traces.specs.Runs.{prelude_session, seated, histories_from}

@@ -1,5 +1,5 @@
 -- A whole run of sessions at once: what its parts need of each other, and what its report is.
-use Rattle.std.proofs.Common.{◌≡◌, ℕ, zero, suc, ◌+◌, ◌<◌, ◌≤◌, List, [], ◌∷◌, ◌++◌, length, map, Option, Some, refl, sym, ap, ◌∙◌, subst, arith}
+use Rattle.std.proofs.Common.{◌≡◌, ℕ, zero, suc, ◌+◌, ◌<◌, ◌≤◌, List, [], ◌∷◌, length, map, Some, refl, sym, ap, ◌∙◌, subst, arith}
 use Rattle.std.specs.Prelude.{slice_get, option_map}
 use Rattle.std.specs.List.{All, AllZip, filter_map, cons_option}
 use Rattle.std.proofs.lemmas.List.{length-map}
@@ -27,7 +27,7 @@ use Rattle.cap_report.specs.declared.report.Trace.{Trace}
 use Rattle.cap_report.specs.Named.{bound_name}
 use Rattle.cap_accounts.specs.Accounts.{CountFrom, with_bound, at_first}
 use Rattle.cap_commands.specs.Agreement.{Standing, Agrees}
-use Rattle.cap_commands.specs.Seats.{AtSeat, OfData, IsSeat, AreSeats, telling, hand_or_none, hand_at}
+use Rattle.cap_commands.specs.Seats.{AtSeat, OfData, IsSeat, AreSeats, telling, hand_at}
 use Rattle.cap_right_laws.proofs.Rightness.{accounts-right}
 use Rattle.cap_shares.specs.Shares.{Shared, AtTurn, given}
 use Rattle.cap_shares.specs.Rows.{Belongs}
@@ -45,10 +45,10 @@ use Rattle.cap_session.specs.Places.{sat_down, stood}
 use Rattle.cap_session.specs.Preludes.{RunsParts}
 use Rattle.cap_session.specs.Reports.{IsReport, IsRunReport}
 use Rattle.cap_session.specs.Shares.{IsSharedOf, fewer_by, IsJob, JobsFrom, rows_of, traces_of, Returns, JoinAll, IsWholeAgain, IsClosedAs}
-use Rattle.cap_session.proofs.Ends.{zip-long, zip-get}
+use Rattle.cap_session.proofs.Ends.{zip-long}
 use Rattle.cap_session.proofs.Jobbing.{IsNumbered, all-can-sit, all-numbered, all-may-run, all-ran-as}
 use Rattle.cap_session.proofs.Reseating.{all-ready, job-seats}
-use Rattle.cap_session.proofs.AtOnce.{AllRan, rows_at_end, all-ran, as-many, many-closed, at-end, whole-again, hand-seated}
+use Rattle.cap_session.proofs.AtOnce.{AllRan, rows_at_end, all-ran, as-many, at-end, whole-again, hand-seated}
 
 -- the seats before the states stay where they are
 chain-places : (others : List OfData → Type 0) (session : SessionNo) (S : Standing) (seats : List AtSeat) (cs : List (Command CheckedObj MorLit)) (events : List (CatNo × OfData)) (answers : List (LineAnswer MorData)) (S' : Standing) (seats' : List AtSeat)

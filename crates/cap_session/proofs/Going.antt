@@ -1,12 +1,10 @@
 -- A session's commands, one after another.
-use Rattle.std.proofs.Common.{◌≡◌, ℕ, zero, suc, ◌+◌, ◌<◌, ◌≤◌, ◌^◌, List, [], ◌∷◌, ◌++◌, length, map, take, get_or, refl, sym, ap, ◌∙◌, subst, arith}
-use Rattle.std.proofs.lemmas.List.{append-nil, take_all, length-append, map-append}
+use Rattle.std.proofs.Common.{◌≡◌, ℕ, ◌+◌, ◌<◌, ◌≤◌, ◌^◌, List, [], ◌∷◌, ◌++◌, length, map, take, get_or, refl, sym, ap, ◌∙◌, subst, arith}
+use Rattle.std.proofs.lemmas.List.{take_all, length-append, map-append}
 use Rattle.cap_names.specs.declared.identifiers.SessionNo.{SessionNo}
 use Rattle.cap_names.specs.declared.literals.MorLit.{MorLit}
 use Rattle.cap_grammar.specs.declared.tree.Command.{Command}
 use Rattle.cap_checked.specs.declared.tree.CheckedObj.{CheckedObj}
-use Rattle.cap_check.specs.Unbuilt.{CheckedPart}
-use Rattle.cap_faults.specs.declared.values.Value.{Value}
 use Rattle.cap_fitting.specs.Commands.{Scope}
 use Rattle.cap_fitting.specs.Forms.{CheckedCommand, behind_commands}
 use Rattle.cap_fitting.specs.Values.{bound_by_command, values_of_parts}
@@ -16,8 +14,8 @@ use Rattle.cap_data.specs.declared.data.MorData.{MorData}
 use Rattle.cap_report.specs.declared.report.Done.{Done}
 use Rattle.cap_report.specs.Named.{bound_name}
 use Rattle.cap_accounts.specs.Accounts.{CountFrom, with_bound}
-use Rattle.cap_commands.specs.Agreement.{Standing, Telling, Stands, IsMadeOver, Agrees}
-use Rattle.cap_commands.specs.Running.{IsPrepared, Runs, behind_command}
+use Rattle.cap_commands.specs.Agreement.{Standing, Telling, Stands, Agrees}
+use Rattle.cap_commands.specs.Running.{IsPrepared, behind_command}
 use Rattle.cap_commands.specs.Seats.{AtSeat, OfData, AreSeats, telling}
 use Rattle.cap_traces.specs.Chains.{Chain}
 use Rattle.cap_traces.proofs.Growing.{seats-behind}

@@ -8,8 +8,8 @@ use Rattle.cap_names.specs.declared.identifiers.SessionNo.{SessionNo}
 use Rattle.cap_fitting.specs.Forms.{CheckedCommand, CheckedSession}
 use Rattle.cap_offer.specs.Labels.{Label}
 use Rattle.cap_report.specs.declared.situation.Made.{Made}
-use Rattle.cap_commands.specs.Agreement.{Standing, Agrees}
-use Rattle.cap_commands.specs.Seats.{AtSeat, IsSeat, AreSeats, telling}
+use Rattle.cap_commands.specs.Agreement.{Standing}
+use Rattle.cap_commands.specs.Seats.{AtSeat, IsSeat, AreSeats}
 use Rattle.cap_shares.specs.Shares.{Shared}
 use Rattle.cap_thread_laws.specs.AtOnce.{IsAnything}
 use Rattle.cap_traces.specs.Chains.{Chain}

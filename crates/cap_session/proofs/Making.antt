@@ -1,21 +1,18 @@
 -- A category that is made behind the parts of a prelude.
-use Rattle.std.proofs.Common.{◌≡◌, ◌⊎◌, inl, inr, ℕ, ◌+◌, Bool, true, false, cond, List, [], ◌∷◌, ◌++◌, length, Option, Some, None, refl, sym, ap, ◌∙◌, subst, slice_get, find, arith}
+use Rattle.std.proofs.Common.{◌≡◌, ◌⊎◌, inl, inr, ℕ, Bool, true, false, cond, List, [], ◌∷◌, ◌++◌, length, Option, Some, None, refl, sym, ap, ◌∙◌, subst, slice_get, find}
 use Rattle.std.specs.Prelude.{option_and_then}
 use Rattle.std.specs.Option.{option_or}
 use Rattle.std.specs.List.{AllZip}
 use Rattle.std.proofs.lemmas.List.Folds.{find-append}
-use Rattle.cap_names.specs.declared.identifiers.Handle.{Handle}
 use Rattle.cap_grammar.specs.declared.tree.Item.TheVariants as top
 use Rattle.cap_grammar.specs.declared.tree.Over.{Over}
 use Rattle.cap_grammar.specs.declared.tree.Over.TheVariants.{Vec}
-use Rattle.cap_grammar.specs.declared.tree.Placed.{Placed}
 use Rattle.cap_block_faults.specs.Names.{same}
 use Rattle.cap_check.specs.Unbuilt.{CheckedPart}
 use Rattle.cap_faults.specs.declared.values.Value.{Value}
 use Rattle.cap_fitting.specs.Categories.{category_over, is_category_named, over_in}
 use Rattle.cap_ops.proofs.Places.{none≢some, some_inner}
 use Rattle.cap_ops.specs.Told.{StaysTold}
-use Rattle.cap_data.specs.declared.data.ObjData.{ObjData}
 use Rattle.cap_data.specs.declared.data.MorData.{MorData}
 use Rattle.cap_data.specs.Counts.{cells_in_object, cells_in_morphism}
 use Rattle.cap_offer.specs.Labels.{Label, vec, any_offer}

@@ -1,29 +1,25 @@
 -- The parts of a prelude, one after another.
-use Rattle.std.proofs.Common.{◌≡◌, ℕ, zero, suc, ◌+◌, ◌<◌, ◌≤◌, ◌^◌, List, [], ◌∷◌, ◌++◌, length, map, take, get_or, Bool, true, false, Option, Some, None, refl, sym, ap, ◌∙◌, subst, find, arith}
+use Rattle.std.proofs.Common.{◌≡◌, ℕ, ◌+◌, ◌<◌, ◌≤◌, ◌^◌, List, [], ◌∷◌, ◌++◌, length, map, take, get_or, Bool, Option, Some, None, refl, sym, ap, ◌∙◌, subst, find, arith}
 use Rattle.std.specs.Prelude.{if◌then◌else◌, option_map, option_to_list, count_by}
 use Rattle.std.specs.List.{AllZip}
 use Rattle.std.proofs.lemmas.List.{append-nil, take_all, length-append, length-take, map-append}
 use Rattle.std.proofs.lemmas.List.Sums.{count_by_more_yes, count_by_more_no, sum_by-take-le}
-use Rattle.cap_names.specs.declared.identifiers.CatNo.{CatNo}
 use Rattle.cap_names.specs.declared.literals.MorLit.{MorLit}
 use Rattle.cap_grammar.specs.declared.tree.Command.{Command}
 use Rattle.cap_grammar.specs.declared.tree.Item.{Item}
 use Rattle.cap_grammar.specs.declared.tree.Item.TheVariants as top
 use Rattle.cap_grammar.specs.declared.tree.Over.{Over}
 use Rattle.cap_grammar.specs.declared.tree.Over.TheVariants.{Vec, Add, Freyd, Rep}
-use Rattle.cap_grammar.specs.declared.tree.Place.{Place}
 use Rattle.cap_block_faults.specs.Names.{same}
 use Rattle.cap_checked.specs.declared.tree.CheckedObj.{CheckedObj}
-use Rattle.cap_check.specs.Unbuilt.{CheckedPart, unbuilt, unbuilt_part, unbuilt_at, unbuilt_token, unbuilt_kind}
-use Rattle.cap_faults.specs.declared.values.Value.{Value}
+use Rattle.cap_check.specs.Unbuilt.{CheckedPart, unbuilt_part, unbuilt_at, unbuilt_token, unbuilt_kind}
 use Rattle.cap_fitting.specs.Categories.{category_over, is_category, is_category_named, number_of_categories}
-use Rattle.cap_fitting.specs.Commands.{Scope, CommandFits}
+use Rattle.cap_fitting.specs.Commands.{CommandFits}
 use Rattle.cap_fitting.specs.Forms.{behind_parts, behind_commands, PartFits, OverFits}
 use Rattle.cap_fitting.specs.Literals.{LiteralFits, PartLiteralFits}
-use Rattle.cap_fitting.specs.Values.{bound_in, bound_by_part, values_of_parts, bound_by}
+use Rattle.cap_fitting.specs.Values.{bound_in, bound_by_part, values_of_parts}
 use Rattle.cap_ops.proofs.Places.{none≢some}
 use Rattle.cap_fitting.proofs.Places.{front_more, values_more, part_here, part_literal_here}
-use Rattle.cap_data.specs.declared.data.ObjData.{ObjData}
 use Rattle.cap_data.specs.declared.data.MorData.{MorData}
 use Rattle.cap_desk.specs.Woven.{IsNothing}
 use Rattle.cap_offer.specs.Labels.{Label, vec}
@@ -34,9 +30,9 @@ use Rattle.cap_report.specs.declared.situation.Made.{Made}
 use Rattle.cap_report.specs.Named.{bound_name}
 use Rattle.cap_accounts.specs.Commands.{category_of}
 use Rattle.cap_accounts.specs.Accounts.{CountFrom, at_first, with_bound}
-use Rattle.cap_commands.specs.Agreement.{Standing, Telling, Stands, IsMadeOver, Agrees}
-use Rattle.cap_commands.specs.Running.{IsPrepared, behind_command}
-use Rattle.cap_commands.specs.Seats.{AtSeat, OfData, AreSeats, telling}
+use Rattle.cap_commands.specs.Agreement.{Standing, Stands, IsMadeOver, Agrees}
+use Rattle.cap_commands.specs.Running.{behind_command}
+use Rattle.cap_commands.specs.Seats.{AtSeat, AreSeats, telling}
 use Rattle.cap_traces.specs.Runs.{prelude_session, new_seat, ItemRuns, ItemsRun}
 use Rattle.cap_traces.specs.Laws.{ItemsGoOn}
 use Rattle.cap_traces.proofs.Growing.{seats-behind}

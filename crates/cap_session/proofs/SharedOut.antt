@@ -1,17 +1,16 @@
 -- Shares are given to sessions, one session after another, and come back.
-use Rattle.std.proofs.Common.{◌≡◌, ℕ, zero, suc, ◌+◌, ◌-◌, ◌<◌, ◌≤◌, List, [], ◌∷◌, ◌++◌, length, map, take, get_or, Option, Some, None, refl, sym, ap, ◌∙◌, subst, arith, append_assoc}
+use Rattle.std.proofs.Common.{◌≡◌, ℕ, zero, suc, ◌+◌, ◌-◌, ◌<◌, ◌≤◌, List, [], ◌∷◌, ◌++◌, length, map, take, get_or, Some, refl, sym, ap, ◌∙◌, subst, arith, append_assoc}
 use Rattle.std.specs.Prelude.{slice_get}
 use Rattle.std.specs.List.{All, AllZip}
-use Rattle.std.proofs.lemmas.List.{append-nil, take_all, length-append, length-take, map-append}
+use Rattle.std.proofs.lemmas.List.{append-nil, take_all, length-append, length-take}
 use Rattle.std.proofs.lemmas.List.Elements.{All-nil, All-push, All-weaker, All-map}
 use Rattle.cap_fitting.specs.Forms.{CheckedSession}
 use Rattle.cap_fitting.proofs.Places.{front_more}
 use Rattle.cap_shares.specs.Shares.{Entries, BeginsWith, Shared, AtTurn, fewer, given, Joins}
 use Rattle.cap_shares.specs.Rows.{Belongs, RowJoins}
 use Rattle.cap_session.specs.declared.jobs.Job.{Job}
-use Rattle.cap_session.specs.declared.jobs.Ended.{Ended}
-use Rattle.cap_session.specs.Shares.{fewer_by, IsJob, JobsFrom, rows_of, Returns, seen_there, added_there, added_in, JoinsAt, JoinAll}
-use Rattle.cap_session.proofs.Ends.{zip-long, zip-get}
+use Rattle.cap_session.specs.Shares.{fewer_by, IsJob, JobsFrom, seen_there, added_there, added_in, JoinsAt, JoinAll}
+use Rattle.cap_session.proofs.Ends.{zip-get}
 
 map-twice : {A B C : Type 0} (f : B → C) (g : A → B) (xs : List A) → map f (map g xs) ≡ map (λ x. f (g x)) xs
 map-twice f g [] = refl

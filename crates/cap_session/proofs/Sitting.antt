@@ -1,5 +1,5 @@
 -- Sessions one after another.
-use Rattle.std.proofs.Common.{◌≡◌, ℕ, zero, suc, ◌+◌, ◌<◌, ◌≤◌, List, [], ◌∷◌, ◌++◌, length, map, take, get_or, Some, refl, sym, ap, ◌∙◌, subst, append_assoc, arith}
+use Rattle.std.proofs.Common.{◌≡◌, ℕ, ◌+◌, ◌<◌, ◌≤◌, List, [], ◌∷◌, ◌++◌, length, map, take, get_or, Some, refl, sym, ap, ◌∙◌, subst, append_assoc, arith}
 use Rattle.std.proofs.lemmas.List.{append-nil, take_all, length-append, length-take}
 use Rattle.std.proofs.lemmas.List.Sums.{get_or-le-sum_by}
 use Rattle.cap_names.specs.declared.identifiers.SessionNo.{SessionNo}
@@ -10,15 +10,14 @@ use Rattle.cap_data.specs.declared.data.ObjData.{ObjData}
 use Rattle.cap_data.specs.declared.data.MorData.{MorData}
 use Rattle.cap_desk.specs.Woven.{IsNothing}
 use Rattle.cap_report.specs.declared.report.Trace.{Trace}
-use Rattle.cap_commands.specs.Agreement.{Agrees}
 use Rattle.cap_commands.specs.Seats.{AtSeat, OfData, AreSeats, telling}
 use Rattle.cap_traces.specs.Chains.{Chain}
 use Rattle.cap_traces.specs.Runs.{seated, SessionRuns, SessionsRun}
 use Rattle.cap_traces.specs.Laws.{SessionsGoOn}
 use Rattle.cap_session.specs.declared.course.Course.{Course}
-use Rattle.cap_session.specs.Courses.{CommandsFit, Comes, RunsAll, Hands}
+use Rattle.cap_session.specs.Courses.{Comes, RunsAll, Hands}
 use Rattle.cap_session.specs.Sessions.{SessionComes, RunsSession, SessionsCome, RunsSessions}
-use Rattle.cap_session.proofs.Counting.{StandsOn, stands-on}
+use Rattle.cap_session.proofs.Counting.{stands-on}
 use Rattle.cap_session.proofs.Staying.{agrees-stays, seated-stays, are-seated, forgotten, seats-back}
 
 -- a session that comes sits down

@@ -1,7 +1,7 @@
 -- Names that agree still do so when more is told, when another session sits down, and when what a session bound is forgotten.
 use Rattle.std.proofs.Common.{◌≡◌, ℕ, zero, suc, ◌+◌, ◌<◌, List, [], ◌∷◌, ◌++◌, length, map, take, drop, get_or, slice_set, Option, Some, None, refl, sym, ap, ◌∙◌, subst, slice_get, append_assoc, add-one, arith}
 use Rattle.std.specs.Prelude.{option_map}
-use Rattle.std.specs.List.{All, AllZip}
+use Rattle.std.specs.List.{AllZip}
 use Rattle.std.proofs.Math.Seq.{take-append_seam, take-suc}
 use Rattle.std.proofs.lemmas.List.{length-map, length-take, map-append}
 use Rattle.std.proofs.lemmas.List.Elements.{All-weaker}
@@ -15,14 +15,12 @@ use Rattle.cap_faults.specs.declared.values.Value.{Value}
 use Rattle.cap_fitting.specs.Commands.{Scope}
 use Rattle.cap_data.specs.declared.data.ObjData.{ObjData}
 use Rattle.cap_data.specs.declared.data.MorData.{MorData}
-use Rattle.cap_data.specs.Counts.{cells_in_object, cells_in_morphism}
 use Rattle.cap_offer.specs.Labels.{Label, any_offer}
-use Rattle.cap_seat.specs.Seats.{Holds}
 use Rattle.cap_report.specs.declared.lines.LineAnswer.{LineAnswer}
 use Rattle.cap_report.specs.declared.lines.LineAnswer.TheVariants as line
 use Rattle.cap_report.specs.declared.situation.Bound.{Bound}
 use Rattle.cap_report.specs.declared.situation.Made.{Made}
-use Rattle.cap_commands.specs.Agreement.{Standing, Telling, IsToldArrow, IsToldObject, IsToldAnswer, Stands, Agrees}
+use Rattle.cap_commands.specs.Agreement.{Standing, Telling, IsToldArrow, IsToldAnswer, Stands, Agrees}
 use Rattle.cap_commands.specs.Seats.{AtSeat, IsSeat, AreSeats, told_or_none, telling}
 use Rattle.cap_traces.specs.Runs.{seated}
 use Rattle.cap_session.proofs.Counting.{StandsOn}

@@ -1,5 +1,5 @@
 -- A whole run: what its parts need of each other, and what its report is.
-use Rattle.std.proofs.Common.{◌≡◌, ℕ, ◌≤◌, List, [], ◌∷◌, ◌++◌, length, map, Result, Ok, Err, refl, sym, ap, ◌∙◌, subst, arith}
+use Rattle.std.proofs.Common.{◌≡◌, ◌≤◌, List, [], ◌∷◌, ◌++◌, length, Result, Ok, Err, refl, sym, ap, ◌∙◌, subst, arith}
 use Rattle.std.specs.Prelude.{IfOk}
 use Rattle.std.specs.List.{AllZip}
 use Rattle.cap_checked.specs.declared.tree.Checked.{Checked}
@@ -9,16 +9,13 @@ use Rattle.cap_fitting.specs.Forms.{CheckedSession, behind_commands, FormFits}
 use Rattle.cap_fitting.specs.Literals.{LiteralsFit}
 use Rattle.cap_data.specs.declared.data.ObjData.{ObjData}
 use Rattle.cap_data.specs.declared.data.MorData.{MorData}
-use Rattle.cap_rules.specs.Table.{rule_table}
 use Rattle.cap_report.specs.declared.report.Done.{Done}
 use Rattle.cap_report.specs.declared.report.Report.{Report}
 use Rattle.cap_report.specs.declared.report.Trace.{Trace}
-use Rattle.cap_accounts.specs.Accounts.{CountFrom, at_first}
+use Rattle.cap_accounts.specs.Accounts.{CountFrom}
 use Rattle.cap_commands.specs.Agreement.{Agrees}
-use Rattle.cap_commands.specs.Kinds.{kinds}
-use Rattle.cap_commands.specs.Seats.{AtSeat, IsSeat, AreSeats, telling}
-use Rattle.cap_traces.specs.Runs.{prelude_session, ItemsRun, SessionsRun, HasRun, IsReportOf}
-use Rattle.cap_one_report.specs.InTurn.{IsInTurn}
+use Rattle.cap_commands.specs.Seats.{AtSeat, IsSeat, telling}
+use Rattle.cap_traces.specs.Runs.{prelude_session, SessionsRun, HasRun}
 use Rattle.cap_one_report.proofs.Runs.{runs-in-turn}
 use Rattle.cap_right_laws.proofs.Rightness.{accounts-right}
 use Rattle.cap_session.specs.declared.course.Course.{Course}

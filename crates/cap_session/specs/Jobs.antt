@@ -1,14 +1,13 @@
 -- Sessions at shared categories, before and after they ran.
-use Rattle.std.specs.Prelude.{◌≡◌, ℕ, ◌-◌, ◌≤◌, List, [], ◌∷◌, ◌++◌, length, map, slice_get, Option, Some, None, Result, Ok, Err, Vec}
+use Rattle.std.specs.Prelude.{◌≡◌, ℕ, ◌-◌, ◌≤◌, List, [], ◌∷◌, ◌++◌, length, map, slice_get, Option, Some, None, Result, Ok, Vec}
 use Rattle.std.specs.List.{All}
 use Rattle.cap_names.specs.declared.faults.NoMemory.{NoMemory}
-use Rattle.cap_names.specs.declared.identifiers.SessionNo.{SessionNo}
 use Rattle.cap_check.specs.Unbuilt.{CheckedPart}
 use Rattle.cap_fitting.specs.Forms.{CheckedCommand, CheckedSession, behind_commands}
 use Rattle.cap_accounts.specs.Accounts.{CountFrom}
 use Rattle.cap_commands.specs.Agreement.{Standing, Agrees}
 use Rattle.cap_commands.specs.Seats.{AtSeat, AreSeats, telling}
-use Rattle.cap_shares.specs.Shares.{Shared, AtTurn}
+use Rattle.cap_shares.specs.Shares.{Shared}
 use Rattle.cap_thread_laws.specs.AtOnce.{IsAnything}
 use Rattle.cap_traces.specs.Chains.{Chain}
 use Rattle.cap_traces.specs.Runs.{seated}

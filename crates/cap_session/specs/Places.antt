@@ -1,5 +1,5 @@
 -- A session's seats at shared categories.
-use Rattle.std.specs.Prelude.{◌≡◌, ℕ, List, [], ◌∷◌, Some}
+use Rattle.std.specs.Prelude.{◌≡◌, List, [], ◌∷◌, Some}
 use Rattle.cap_names.specs.declared.identifiers.SessionNo.{SessionNo}
 use Rattle.cap_data.specs.Counts.{cells_in_object, cells_in_morphism}
 use Rattle.cap_offer.specs.Labels.{any_offer}

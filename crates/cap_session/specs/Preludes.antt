@@ -1,5 +1,5 @@
 -- The prelude of a script, part by part.
-use Rattle.std.specs.Prelude.{◌≡◌, ℕ, ◌<◌, ◌≤◌, ◌^◌, List, [], ◌∷◌, ◌++◌, length, map, true}
+use Rattle.std.specs.Prelude.{◌≡◌, ℕ, ◌<◌, ◌^◌, List, [], ◌∷◌, ◌++◌, length, map, true}
 use Rattle.cap_names.specs.declared.literals.MorLit.{MorLit}
 use Rattle.cap_field.specs.Residue.{is_tabled}
 use Rattle.cap_grammar.specs.declared.tree.Item.{Item}
@@ -12,8 +12,6 @@ use Rattle.cap_check.specs.Unbuilt.{CheckedPart, unbuilt}
 use Rattle.cap_fitting.specs.Categories.{number_of_categories}
 use Rattle.cap_fitting.specs.Forms.{behind_commands, FormFits}
 use Rattle.cap_fitting.specs.Literals.{LiteralsFit}
-use Rattle.cap_data.specs.declared.data.ObjData.{ObjData}
-use Rattle.cap_data.specs.declared.data.MorData.{MorData}
 use Rattle.cap_offer.specs.Labels.{vec}
 use Rattle.cap_desk.specs.Woven.{IsNothing}
 use Rattle.cap_report.specs.declared.lines.LineAnswer.TheVariants as line

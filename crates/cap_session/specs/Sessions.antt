@@ -1,10 +1,6 @@
 -- Sessions behind the prelude, one after another.
 use Rattle.std.specs.Prelude.{◌≡◌, ℕ, ◌≤◌, List, [], ◌++◌, length, map}
 use Rattle.cap_names.specs.declared.identifiers.SessionNo.{SessionNo}
-use Rattle.cap_names.specs.declared.literals.MorLit.{MorLit}
-use Rattle.cap_grammar.specs.declared.tree.Placed.{Placed}
-use Rattle.cap_grammar.specs.declared.tree.SessionPart.{SessionPart}
-use Rattle.cap_checked.specs.declared.tree.CheckedObj.{CheckedObj}
 use Rattle.cap_checked.specs.declared.tree.Checked.{Checked}
 use Rattle.cap_check.specs.Unbuilt.{CheckedPart}
 use Rattle.cap_fitting.specs.Forms.{CheckedCommand, CheckedSession, behind_commands, FormFits}

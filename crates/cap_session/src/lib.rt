@@ -20,4 +20,3 @@ pub use cap_report::{Done, History, LineAnswer, LineRefusal, Report, Trace};
 pub use gated::Gated;
 pub use plain::run_plain;
 pub use threads::run_sessions;
-pub use turn_desk::TurnDesk;

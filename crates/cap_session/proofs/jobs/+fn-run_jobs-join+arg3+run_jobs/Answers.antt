@@ -1,4 +1,4 @@
-use Rattle.std.proofs.Common.{rules, ◌≡◌, ◌++◌, ◌∷◌, [], List, length, sym, subst, ap, ◌∙◌, arith, length-append}
+use Rattle.std.proofs.Common.{rules, ◌∷◌, [], length, subst, ap, ◌∙◌, length-append}
 use Rattle.std.specs.List.{All}
 use Rattle.cap_session.specs.Jobs.{MayRun, HasRunAs}
 use Rattle.cap_session.proofs.Ends.{all-front, all-last}

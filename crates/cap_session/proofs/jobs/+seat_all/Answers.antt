@@ -1,4 +1,4 @@
-use Rattle.std.proofs.Common.{◌++◌, ◌∷◌, [], List, refl, sym, subst}
+use Rattle.std.proofs.Common.{◌++◌, ◌∷◌, [], refl, sym, subst}
 use Rattle.std.specs.List.{All, AllZip}
 use Rattle.cap_commands.specs.Seats.{AtSeat}
 use Rattle.cap_session.specs.declared.jobs.Seated.{Seated}

@@ -1,6 +1,5 @@
 use Rattle.std.proofs.Common.{◌≡◌, ◌++◌, ◌∷◌, [], length, sym, ap, ◌∙◌, subst, arith}
-use Rattle.cap_seat.specs.Memories.{Remembered, remembering}
-use Rattle.cap_data.specs.declared.data.ObjData.{ObjData}
+use Rattle.cap_seat.specs.Memories.{remembering}
 use Rattle.cap_commands.specs.Seats.{AtSeat}
 use Rattle.cap_session.specs.Places.{HoldsThere, sitting, sat_down}
 use Rattle.cap_session.proofs.SittingDown.{last, rest-holds, place-here, label-here, one-more-seat, holds-here}

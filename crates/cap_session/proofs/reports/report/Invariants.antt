@@ -1,4 +1,4 @@
-use Rattle.std.proofs.Common.{◌≡◌, ◌+◌, ◌≤◌, length, reverse}
+use Rattle.std.proofs.Common.{◌≡◌, ◌+◌, ◌≤◌, length}
 use Rattle.std.specs.List.{filter_map}
 use Rattle.cap_traces.specs.Runs.{histories_from}
 use Rattle.cap_session.proofs.Reporting.{with_histories, with_plans, plan_of}

@@ -1,8 +1,8 @@
-use Rattle.std.proofs.Common.{◌+◌, ◌∙◌, sym, subst, arith}
+use Rattle.std.proofs.Common.{◌+◌, sym, subst, arith}
 use Rattle.cap_desk.specs.Woven.{IsNothing}
 use Rattle.cap_traces.proofs.Sessions.{sessions-more}
 use Rattle.cap_session.specs.Sessions.{SessionComes, RunsSession}
-use Rattle.cap_session.proofs.Sitting.{Sitting, session-comes, sitting-on, few-traces}
+use Rattle.cap_session.proofs.Sitting.{Sitting, session-comes, sitting-on}
 use Rattle.cap_session.proofs.sessions.run_one_by_one.Goals as goal
 
 pub run_session-requires-clause-comes : goal.run_session-requires-clause-comes

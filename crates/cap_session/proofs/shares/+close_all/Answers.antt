@@ -1,4 +1,4 @@
-use Rattle.std.proofs.Common.{◌≡◌, ◌++◌, ◌∷◌, [], length, sym, subst, ap, ◌∙◌, arith, length-append}
+use Rattle.std.proofs.Common.{◌≡◌, ◌++◌, ◌∷◌, [], length, sym, subst, ap, ◌∙◌}
 use Rattle.std.specs.List.{AllZip}
 use Rattle.cap_data.specs.Counts.{cells_in_object, cells_in_morphism}
 use Rattle.cap_desk.specs.Books.{frame}
@@ -6,8 +6,8 @@ use Rattle.cap_legal.specs.Legal.{Legal}
 use Rattle.cap_offer.specs.Labels.{Label, any_offer}
 use Rattle.cap_commands.specs.Seats.{AtSeat}
 use Rattle.cap_shares.specs.Shares.{Shared, BeginsWith}
-use Rattle.cap_session.specs.Shares.{IsWholeAgain, IsClosedAs}
-use Rattle.cap_session.proofs.Ends.{zip-more, all-front, all-last}
+use Rattle.cap_session.specs.Shares.{IsClosedAs}
+use Rattle.cap_session.proofs.Ends.{zip-more}
 use Rattle.cap_session.proofs.shares.+close_all.Goals as goal
 
 pub returns : goal.returns

@@ -1,5 +1,5 @@
 use Rattle.std.proofs.Common.{rules, ◌≡◌, ◌++◌, ◌∷◌, [], List, length, sym, subst, ap, ◌∙◌, length-append}
-use Rattle.std.specs.List.{All, AllZip}
+use Rattle.std.specs.List.{All}
 use Rattle.std.proofs.lemmas.List.{map-append}
 use Rattle.cap_shares.specs.Shares.{AtTurn}
 use Rattle.cap_session.specs.declared.jobs.Ended.{Ended}

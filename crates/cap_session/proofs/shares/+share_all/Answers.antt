@@ -1,10 +1,5 @@
 use Rattle.std.proofs.Common.{◌≡◌, ◌++◌, ◌∷◌, [], sym, subst, ap, ◌∙◌}
 use Rattle.std.specs.List.{AllZip}
-use Rattle.cap_data.specs.declared.data.ObjData.{ObjData}
-use Rattle.cap_data.specs.declared.data.MorData.{MorData}
-use Rattle.cap_desk.specs.Books.{Book}
-use Rattle.cap_offer.specs.Labels.{Label}
-use Rattle.cap_seat.specs.Memories.{Remembered}
 use Rattle.cap_commands.specs.Seats.{AtSeat}
 use Rattle.cap_shares.specs.Shares.{Shared, opened}
 use Rattle.cap_session.specs.Shares.{IsSharedOf}

@@ -2,7 +2,7 @@ use Rattle.std.proofs.Common.{◌≡◌, ◌+◌, ◌≤◌, length, sym, subst,
 use Rattle.std.specs.List.{All}
 use Rattle.cap_shares.specs.Shares.{Shared}
 use Rattle.cap_session.specs.declared.jobs.Job.{Job}
-use Rattle.cap_session.proofs.SharedOut.{Made, made-first, made-more, made-jobs, made-rest, enough}
+use Rattle.cap_session.proofs.SharedOut.{Made, made-first, made-more, made-jobs, enough}
 use Rattle.cap_session.proofs.shares.make_jobs.Goals as goal
 
 pub sessions-init : goal.sessions-init
