@@ -7,10 +7,9 @@ use Rattle.cap_checked.specs.declared.tree.Checked.{Checked}
 use Rattle.cap_fitting.specs.Forms.{FormFits}
 use Rattle.cap_fitting.proofs.Fit.{forms_fit}
 use Rattle.cap_session.specs.Reports.{IsPlainReport}
-use Rattle.cap_top.specs.declared.judging.Said.{Said}
 use Rattle.cap_top.specs.declared.judging.Said.TheVariants.{Answered, Rejected, Refused}
 use Rattle.cap_top.specs.Refusals.{IsSoundText}
-use Rattle.cap_top.specs.Judged.{IsAnsweredPlain, IsRefusedText, IsPlainJudged}
+use Rattle.cap_top.specs.Judged.{IsAnsweredPlain, IsRefusedText}
 use Rattle.cap_top_text.specs.Text.{report_text}
 use Rattle.cap_one_report.specs.Sizes.{without_sizes, HasNoSizes}
 use Rattle.cap_one_report.proofs.Reports.{one-report}

@@ -57,15 +57,15 @@ const OTHER_OUTPUT: &str =
 
 // How many entries of the first history tell a value that was kept, was there, or was found.
 fn told(outcome: &Outcome) -> (u32, u32, u32) {
-    let mut kept = 0;
-    let mut hit = 0;
-    let mut found = 0;
+    let mut kept: u32 = 0;
+    let mut hit: u32 = 0;
+    let mut found: u32 = 0;
     for history in outcome.report.histories.as_slice().iter().take(1) {
         for entry in history.entries.as_slice() {
             match &entry.reply {
-                Reply::Kept(_) => kept += 1,
-                Reply::Hit(_) => hit += 1,
-                Reply::Found(_) => found += 1,
+                Reply::Kept(_) => kept = kept.saturating_add(1),
+                Reply::Hit(_) => hit = hit.saturating_add(1),
+                Reply::Found(_) => found = found.saturating_add(1),
                 _ => {}
             }
         }
@@ -121,7 +121,7 @@ fn sessions_meet_before_their_first_command(rt: HostRuntime) -> Result<(), Fail>
     let outcome = run_at(&rt, alloc, places, input.as_str(), output.as_str())?;
     let (kept, hit, found) = told(&outcome);
     assert_eq!(rt; kept, 1);
-    assert_eq!(rt; hit + found, 1);
+    assert_eq!(rt; hit.saturating_add(found), 1);
     Ok(())
 }
 
