@@ -1,10 +1,9 @@
 -- The Freyd category is abelian, where there are direct sums and weak kernels.
-use Rattle.std.proofs.Common.{◌≡◌, ℕ}
-use Rattle.cap_laws.specs.Linear.{CategoryData, IsLinear, Arrow, Same}
-use Rattle.cap_laws.specs.Universal.{opposite, HasKernel, HasHalfAbelian, IsAdditive, IsAbelian}
+use Rattle.cap_laws.specs.Linear.{CategoryData, IsLinear}
+use Rattle.cap_laws.specs.Universal.{IsAdditive, IsAbelian}
 use Rattle.cap_laws.specs.declared.values.Sum.{Sum}
 use Rattle.cap_laws.proofs.Opposite.{turned}
-use Rattle.cap_freyd_laws.specs.Freyd.{PresentationMor, IsFreydMorphism, freyd_data}
+use Rattle.cap_freyd_laws.specs.Freyd.{freyd_data}
 use Rattle.cap_freyd_laws.specs.Canonical.{HasSums, HasWeakKernels, freyd_sum, block_sum, kernel_of, cokernel_of}
 use Rattle.cap_freyd_laws.proofs.Linear.{relation, below}
 use Rattle.cap_freyd_laws.proofs.Kernel.{sum-at, freyd-kernel}

@@ -1,12 +1,11 @@
 -- Arrows and congruence of the Freyd category, at any names of the ends.
-use Rattle.std.proofs.Common.{◌≡◌, ℕ, refl, sym, subst}
+use Rattle.std.proofs.Common.{refl}
 use Rattle.cap_laws.specs.Linear.{CategoryData, IsLinear, Arrow, Same}
 use Rattle.cap_laws.specs.Universal.{subtract}
-use Rattle.cap_laws.proofs.Calculus.{same, back}
 use Rattle.cap_laws.specs.Factor.{Through}
-use Rattle.cap_freyd_laws.specs.Freyd.{Presentation, PresentationMor, IsFreydMorphism, freyd_data}
+use Rattle.cap_freyd_laws.specs.Freyd.{Presentation, PresentationMor, freyd_data}
 use Rattle.cap_laws.proofs.Systems.{move, unmove}
-use Rattle.cap_freyd_laws.proofs.Linear.{relation, below, above, modulo, above-same, null, null-at}
+use Rattle.cap_freyd_laws.proofs.Linear.{below, above, modulo, above-same, null, null-at}
 
 module _ {Obj Mor : Type 0} {C : CategoryData Obj Mor} (L : IsLinear C) where
   pub arrow-of : {r x s y : Obj} {a b : Presentation Mor} {alpha : Mor} → Arrow C r x a.relation → Arrow C s y b.relation → Arrow C x y alpha → Through C r s y b.relation (C.compose a.relation alpha) → Arrow (freyd_data C) a b (record { from = a; to = b; alpha = alpha })

@@ -1,12 +1,12 @@
 -- Cokernels of the Freyd category.
-use Rattle.std.proofs.Common.{◌≡◌, ℕ, refl, sym, subst}
+use Rattle.std.proofs.Common.{refl, subst}
 use Rattle.cap_laws.specs.Linear.{CategoryData, IsLinear, Arrow, Same}
-use Rattle.cap_laws.specs.Universal.{subtract, opposite, IsCokernel, IsDirectSum}
+use Rattle.cap_laws.specs.Universal.{IsCokernel, IsDirectSum}
 use Rattle.cap_laws.specs.declared.values.Sum.{Sum}
 use Rattle.cap_freyd_laws.proofs.Kernel.{sum-at}
-use Rattle.cap_laws.proofs.Calculus.{from-object, to-object, same, back, ◌⟫◌ as join, composed, assoc, unit-left, unit-right, subtracted}
+use Rattle.cap_laws.proofs.Calculus.{to-object, back, ◌⟫◌ as join, unit-left, unit-right, subtracted}
 use Rattle.cap_laws.proofs.Opposite.{turn, turned, turn-same, turned-same}
-use Rattle.cap_laws.specs.Factor.{Through, rows}
+use Rattle.cap_laws.specs.Factor.{rows}
 use Rattle.cap_freyd_laws.specs.Freyd.{Presentation, PresentationMor, IsFreydMorphism, freyd_data}
 use Rattle.cap_freyd_laws.specs.Canonical.{HasSums, cokernel_of}
 use Rattle.cap_laws.proofs.Factor.{through-same, modulo-same}

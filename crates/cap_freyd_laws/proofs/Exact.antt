@@ -1,17 +1,15 @@
 -- Monos are kernels of their cokernels, and epis cokernels of their kernels.
-use Rattle.std.proofs.Common.{◌≡◌, ℕ, refl, sym, subst}
 use Rattle.cap_laws.specs.Linear.{CategoryData, IsLinear, Arrow, Same}
-use Rattle.cap_laws.specs.Universal.{subtract, opposite, IsMono, IsEpi, IsKernel, IsCokernel, IsDirectSum}
-use Rattle.cap_laws.proofs.Calculus.{from-object, to-object, same, back, ◌⟫◌ as join, composed, assoc, unit-left, unit-right, compose-zero, zero-compose, subtracted, subtract-arrow, subtract-compose, compose-subtract, equal-from-subtract, subtract-from-equal}
+use Rattle.cap_laws.specs.Universal.{IsMono, IsEpi, IsKernel, IsCokernel, IsDirectSum}
+use Rattle.cap_laws.proofs.Calculus.{from-object, to-object, same, back, ◌⟫◌ as join, composed, assoc, unit-left, unit-right, compose-zero, zero-compose, subtracted, subtract-arrow, subtract-compose, compose-subtract}
 use Rattle.cap_laws.proofs.Unique.{mono-cancels}
 use Rattle.cap_laws.proofs.Opposite.{turn, turned, turn-same, turned-same, opposite-linear}
 use Rattle.cap_laws.specs.Factor.{Through, rows}
-use Rattle.cap_freyd_laws.specs.Freyd.{Presentation, PresentationMor, IsFreydMorphism, freyd_data}
+use Rattle.cap_freyd_laws.specs.Freyd.{Presentation, PresentationMor, freyd_data}
 use Rattle.cap_laws.proofs.Differences.{subtract-part}
 use Rattle.cap_laws.proofs.Factor.{through-same, through-by, through-zero, through-before, through-self, through-other, modulo-back}
 use Rattle.cap_freyd_laws.proofs.Linear.{relation, below, freyd-linear}
-use Rattle.cap_freyd_laws.proofs.Bridge.{arrow-of, alpha-of, omega-of, modulo-of, same-of, null-of, zero-of}
-use Rattle.cap_laws.specs.Factor.{Parts}
+use Rattle.cap_freyd_laws.proofs.Bridge.{arrow-of, alpha-of, omega-of, same-of, null-of, zero-of}
 use Rattle.cap_laws.proofs.Blocks.{parts, rows-arrow}
 use Rattle.cap_freyd_laws.proofs.Cokernel.{cokernel-from-rows}
 
@@ -43,7 +41,7 @@ module _ {Obj Mor : Type 0} {C : CategoryData Obj Mor} (L : IsLinear C) where
       let E = free A H in
       let u = K.lift E (zero-of L O B (LF.compose_arrow E F) N) in
       null-of L O Q (join LF (composed LF (back LF u.holds) (same LF T))
-          (join LF (assoc LF u.arrow K.arrow T) (join LF (composed LF (same LF u.arrow) Z) (compose-zero LF u.arrow (below L T).to))))
+      (join LF (assoc LF u.arrow K.arrow T) (join LF (composed LF (same LF u.arrow) Z) (compose-zero LF u.arrow (below L T).to))))
 
   -- what a cokernel sends to 0, the canonical one does: it is s·b + u·alpha
   pub cokernel-parts : {w r x s y : Obj} {a b c e : Presentation Mor} {i1 i2 p1 p2 : Mor} {f p t : PresentationMor Mor} → Arrow C r x a.relation → Arrow C s y b.relation → Arrow (freyd_data C) a b f → IsDirectSum C w s x i1 i2 p1 p2 → IsCokernel (freyd_data C) a b c f p → Arrow (freyd_data C) e b t → Same (freyd_data C) e c ((freyd_data C).compose t p) ((freyd_data C).zero e c) → Through C (C.target e.relation) w y (rows C p1 p2 b.relation f.alpha) t.alpha
@@ -55,7 +53,7 @@ module _ {Obj Mor : Type 0} {C : CategoryData Obj Mor} (L : IsLinear C) where
       let u = K.lift N.arrow N.zero in
       let U = turned u.arrow in
       let z = join LF (composed LF (same LF T) (back LF (turned-same u.holds)))
-          (join LF (back LF (assoc LF T (turned K.arrow) U)) (join LF (composed LF Z (same LF U)) (zero-compose LF (from-object LF T) U))) in
+      (join LF (back LF (assoc LF T (turned K.arrow) U)) (join LF (composed LF Z (same LF U)) (zero-compose LF (from-object LF T) U))) in
       through-same L (back L (unit-right L (alpha-of L E B T))) (null-of L E (rows-arrow L D B alpha) z)
 
   pub mono-is-kernel : {w r x s y : Obj} {a b c : Presentation Mor} {i1 i2 p1 p2 : Mor} {f p : PresentationMor Mor} → Arrow C r x a.relation → Arrow C s y b.relation → IsDirectSum C w s x i1 i2 p1 p2 → IsMono (freyd_data C) a b f → IsCokernel (freyd_data C) a b c f p → IsKernel (freyd_data C) a b c p f
@@ -73,8 +71,8 @@ module _ {Obj Mor : Type 0} {C : CategoryData Obj Mor} (L : IsLinear C) where
             let va = L.compose_arrow h.second alpha in
             let rest = through-same L (subtract-part L (L.compose_arrow h.first B) va h.holds) (through-by L h.first B) in
             let U = arrow-of L E A h.second (mono-reflects A B M (L.compose_arrow E h.second)
-                (through-same L (assoc L E h.second alpha)
-                    (through-other L (L.compose_arrow E va) (L.compose_arrow E tau) (through-same L (back L (compose-subtract L E tau va)) (through-before L E rest)) (omega-of L E B T)))) in
+            (through-same L (assoc L E h.second alpha)
+            (through-other L (L.compose_arrow E va) (L.compose_arrow E tau) (through-same L (back L (compose-subtract L E tau va)) (through-before L E rest)) (omega-of L E B T)))) in
             record {
               by = record { from = e; to = a; alpha = h.v };
               arrow = U;

@@ -1,14 +1,14 @@
 -- Kernels of the Freyd category.
-use Rattle.std.proofs.Common.{◌≡◌, ℕ, refl, sym, subst}
+use Rattle.std.proofs.Common.{refl, subst}
 use Rattle.cap_laws.specs.Linear.{CategoryData, IsLinear, Arrow, Same}
-use Rattle.cap_laws.specs.Universal.{subtract, IsKernel, IsDirectSum}
+use Rattle.cap_laws.specs.Universal.{IsKernel, IsDirectSum}
 use Rattle.cap_laws.specs.declared.values.Sum.{Sum}
-use Rattle.cap_laws.proofs.Calculus.{from-object, to-object, same, back, ◌⟫◌ as join, composed, assoc, subtract-arrow, subtract-compose}
-use Rattle.cap_laws.specs.Factor.{Through, IsPreimage}
+use Rattle.cap_laws.proofs.Calculus.{same, back, ◌⟫◌ as join, composed, assoc, subtract-arrow, subtract-compose}
+use Rattle.cap_laws.specs.Factor.{IsPreimage}
 use Rattle.cap_freyd_laws.specs.Freyd.{Presentation, PresentationMor, IsFreydMorphism, freyd_data}
 use Rattle.cap_freyd_laws.specs.Canonical.{HasSums, HasWeakKernels, preimage, kernel_of, stack}
 use Rattle.cap_laws.proofs.Factor.{through-same, modulo-same}
-use Rattle.cap_freyd_laws.proofs.Linear.{relation, below, lifted, freyd-linear}
+use Rattle.cap_freyd_laws.proofs.Linear.{relation, below, freyd-linear}
 use Rattle.cap_freyd_laws.proofs.Bridge.{arrow-of, alpha-of, omega-of, modulo-of, same-of, null-of, zero-of}
 use Rattle.cap_laws.proofs.Blocks.{preimage-is, rows-arrow}
 
@@ -45,7 +45,7 @@ module _ {Obj Mor : Type 0} {C : CategoryData Obj Mor} (L : IsLinear C) where
       let d = sum (C.source f) (C.source g) in
       subst (λ b. IsDirectSum C (C.target d.i1) x b d.i1 d.i2 d.p1 d.p2) G.from
       (subst (λ a. IsDirectSum C (C.target d.i1) a (C.source g) d.i1 d.i2 d.p1 d.p2) F.from
-          (S.is (C.source f) (C.source g) (L.source_object f F.is) (L.source_object g G.is)))
+      (S.is (C.source f) (C.source g) (L.source_object f F.is) (L.source_object g G.is)))
 
   pub preimage-at : {sum : Obj → Obj → Sum Mor} {weak_kernel : Mor → Mor} → HasSums C sum → HasWeakKernels C weak_kernel → {x y z : Obj} {f g : Mor} → Arrow C x z f → Arrow C y z g → IsPreimage C (C.source (weak_kernel (stack C sum f g))) x y z f g (preimage C sum weak_kernel f g)
   preimage-at {sum} {weak_kernel} S W {x} {y} {z} {f} {g} F G =

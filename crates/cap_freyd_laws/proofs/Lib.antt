@@ -7,3 +7,4 @@ pub mod Sums
 pub mod Abelian
 pub mod Systems
 pub mod Lifts
+mod Worked

@@ -1,19 +1,19 @@
 -- Lifts and colifts of the Freyd category are solutions of systems below.
-use Rattle.std.proofs.Common.{◌≡◌, ℕ, ◌-◌, ◌↔◌, refl, sym, ◌∙◌, subst, List, [], ◌∷◌, get_or, Option, Some, None, is_some, IsTrue}
+use Rattle.std.proofs.Common.{◌-◌, ◌↔◌, refl, sym, ◌∙◌, subst, List, [], ◌∷◌, get_or, Option, Some, None, is_some, IsTrue}
 use Rattle.cap_laws.specs.Linear.{CategoryData, IsLinear, Arrow, Same}
-use Rattle.cap_laws.specs.Universal.{negate, subtract, opposite, Some-arrow, IsLift, IsColift}
-use Rattle.cap_laws.specs.Systems.{IsSystem, IsSolution, AnswersSystem, one_system, first_of}
+use Rattle.cap_laws.specs.Universal.{negate, subtract, Some-arrow, IsLift, IsColift}
+use Rattle.cap_laws.specs.Systems.{IsSystem, IsSolution, AnswersSystem, first_of}
 use Rattle.cap_laws.proofs.Systems.{one-is-system, from-one, to-one}
 use Rattle.cap_laws.specs.declared.values.System.{System}
-use Rattle.cap_laws.proofs.Calculus.{from-object, to-object, same, back, ◌⟫◌ as join, composed, added, scaled, assoc, unit-left, unit-right, add-swap, scale-compose, subtract-add, subtracted, negate-arrow, subtract-arrow, equal-from-subtract, subtract-from-equal}
+use Rattle.cap_laws.proofs.Calculus.{from-object, to-object, same, back, ◌⟫◌ as join, composed, added, scaled, unit-left, unit-right, add-swap, scale-compose, subtract-add, negate-arrow, subtract-arrow, equal-from-subtract, subtract-from-equal}
 use Rattle.cap_laws.proofs.Opposite.{turn, turned, turn-same, turned-same}
 use Rattle.cap_laws.specs.Factor.{Through}
 use Rattle.cap_freyd_laws.specs.Freyd.{Presentation, PresentationMor, IsFreydMorphism, freyd_data}
-use Rattle.cap_freyd_laws.specs.Canonical.{morphism_system, congruence_system, three_system, lift_system, colift_system, HasSolver, between, lift_of, colift_of}
+use Rattle.cap_freyd_laws.specs.Canonical.{morphism_system, congruence_system, lift_system, colift_system, HasSolver, between, lift_of, colift_of}
 use Rattle.cap_laws.proofs.Differences.{subtract-part}
 use Rattle.cap_laws.proofs.Factor.{through-same, through-by, modulo-back}
 use Rattle.cap_freyd_laws.proofs.Linear.{relation, below, above, modulo, above-same, freyd-linear}
-use Rattle.cap_freyd_laws.proofs.Systems.{Grid, FitGrid, Solves, Answer, three-is-system, from-three, to-three}
+use Rattle.cap_freyd_laws.proofs.Systems.{Grid, FitGrid, Solves, three-is-system, from-three, to-three}
 
 module _ {Obj Mor : Type 0} {C : CategoryData Obj Mor} (L : IsLinear C) where
   infixr 5 ◌⟫◌
@@ -35,9 +35,10 @@ module _ {Obj Mor : Type 0} {C : CategoryData Obj Mor} (L : IsLinear C) where
   -- a morphism is one exactly where its system has a solution
   pub morphism-exactly : {a b alpha : Mor} → C.is_morphism a → C.is_morphism b → Arrow C (C.target a) (C.target b) alpha → IsFreydMorphism C a b alpha ↔ ((xs : List Mor) × IsSolution C (morphism_system C a b alpha) xs)
   morphism-exactly {a} {b} {alpha} p q F =
-      let V = L.compose_arrow (relation L p) F in
-      (λ m. (m.omega.by ∷ [], to-one L V m.omega),
-       λ s. record { from = p; to = q; arrow = F; omega = from-one L (relation L q) V s.0 s.1 })
+      let V = L.compose_arrow (relation L p) F in (
+        λ m. (m.omega.by ∷ [], to-one L V m.omega),
+        λ s. record { from = p; to = q; arrow = F; omega = from-one L (relation L q) V s.0 s.1 },
+      )
 
   pub morphism-is-system : {a b alpha : Mor} → C.is_morphism a → C.is_morphism b → Arrow C (C.target a) (C.target b) alpha → IsSystem C (morphism_system C a b alpha)
   morphism-is-system p q F = one-is-system L (relation L q) (L.compose_arrow (relation L p) F)
@@ -48,9 +49,10 @@ module _ {Obj Mor : Type 0} {C : CategoryData Obj Mor} (L : IsLinear C) where
 
   pub congruence-exactly : {a b : Presentation Mor} {f g : PresentationMor Mor} → Arrow (freyd_data C) a b f → Arrow (freyd_data C) a b g → Same (freyd_data C) a b f g ↔ ((xs : List Mor) × IsSolution C (congruence_system C a.relation b.relation f.alpha g.alpha) xs)
   congruence-exactly {a} {b} {f} {g} F G =
-      let V = subtract-arrow L (below L F).arrow (below L G).arrow in
-      (λ m. ((modulo L m).by ∷ [], to-one L V (modulo L m)),
-       λ s. above-same L F G (from-one L (relation L (below L F).to) V s.0 s.1))
+      let V = subtract-arrow L (below L F).arrow (below L G).arrow in (
+        λ m. ((modulo L m).by ∷ [], to-one L V (modulo L m)),
+        λ s. above-same L F G (from-one L (relation L (below L F).to) V s.0 s.1),
+      )
 
   -- lifts of t: x→b along f: a→b
   abbrev lift-grid : Mor → Mor → Mor → Grid Obj
@@ -86,14 +88,15 @@ module _ {Obj Mor : Type 0} {C : CategoryData Obj Mor} (L : IsLinear C) where
       let A = relation L F.from in
       let B = relation L F.to in
       let xu = L.compose_arrow X S.first in
-      let wa = L.compose_arrow S.third A in
-      (record {
-         from = T.from;
-         to = F.from;
-         arrow = S.first;
-         omega = through-same L (equal-from-subtract L xu wa (back L (added L (unit-right L xu) (minus-term S.third A)) ⟫ S.two)) (through-by L S.third A);
-       },
-       modulo-from-sum (L.compose_arrow S.first F.arrow) S.second B (back L (added L (id-term S.first F.arrow) (id-term S.second B)) ⟫ S.one))
+      let wa = L.compose_arrow S.third A in (
+        record {
+          from = T.from;
+          to = F.from;
+          arrow = S.first;
+          omega = through-same L (equal-from-subtract L xu wa (back L (added L (unit-right L xu) (minus-term S.third A)) ⟫ S.two)) (through-by L S.third A);
+        },
+        modulo-from-sum (L.compose_arrow S.first F.arrow) S.second B (back L (added L (id-term S.first F.arrow) (id-term S.second B)) ⟫ S.one),
+      )
 
   lift-to : {x a b t f u : Mor} → IsFreydMorphism C x b t → IsFreydMorphism C a b f → (U : IsFreydMorphism C x a u) → (m : Through C (C.target x) (C.source b) (C.target b) b (subtract C t (C.compose u f))) → LiftSolves x a b t f u m.by U.omega.by
   lift-to {x} {a} {b} {t} {f} {u} T F U m =
@@ -121,10 +124,11 @@ module _ {Obj Mor : Type 0} {C : CategoryData Obj Mor} (L : IsLinear C) where
   pub lift-exactly : {x a b : Presentation Mor} {t f : PresentationMor Mor} → Arrow (freyd_data C) x b t → Arrow (freyd_data C) a b f → Some-arrow (freyd_data C) x a (λ u. Same (freyd_data C) x b ((freyd_data C).compose u f) t) ↔ ((xs : List Mor) × IsSolution C (lift_system C x.relation a.relation b.relation t.alpha f.alpha) xs)
   lift-exactly {x} {a} {b} {t} {f} T F =
       let T' = below L T in
-      let F' = below L F in
-      (λ k. let m = modulo L (back (freyd-linear L) k.holds) in
+      let F' = below L F in (
+        λ k. let m = modulo L (back (freyd-linear L) k.holds) in
             (k.by.alpha ∷ m.by ∷ (below L k.arrow).omega.by ∷ [], to-three L (lift-fits T' F') (lift-to T' F' (below L k.arrow) m)),
-       λ s. let r = lift-by T F s.0 s.1 in record { by = record { from = x; to = a; alpha = get_or s.0 0 t.alpha }; arrow = r.0; holds = r.1 })
+        λ s. let r = lift-by T F s.0 s.1 in record { by = record { from = x; to = a; alpha = get_or s.0 0 t.alpha }; arrow = r.0; holds = r.1 },
+      )
 
   -- colifts of t: c→x along f: c→a
   abbrev colift-grid : Mor → Mor → Mor → Grid Obj
@@ -162,14 +166,15 @@ module _ {Obj Mor : Type 0} {C : CategoryData Obj Mor} (L : IsLinear C) where
       let wx = L.compose_arrow S.third X in
       let fu = L.compose_arrow F.arrow S.first in
       let sx = L.compose_arrow S.second X in
-      let e = back L (added L (unit-right L fu) (minus-term S.second X)) ⟫ S.one in
-      (record {
-         from = F.to;
-         to = T.to;
-         arrow = S.first;
-         omega = through-same L (equal-from-subtract L au wx (back L (added L (unit-right L au) (minus-term S.third X)) ⟫ S.two)) (through-by L S.third X);
-       },
-       through-same L (subtract-part L sx T.arrow (back L (subtract-add L fu sx) ⟫ added L e (same L sx) ⟫ add-swap L T.arrow sx)) (through-by L S.second X))
+      let e = back L (added L (unit-right L fu) (minus-term S.second X)) ⟫ S.one in (
+        record {
+          from = F.to;
+          to = T.to;
+          arrow = S.first;
+          omega = through-same L (equal-from-subtract L au wx (back L (added L (unit-right L au) (minus-term S.third X)) ⟫ S.two)) (through-by L S.third X);
+        },
+        through-same L (subtract-part L sx T.arrow (back L (subtract-add L fu sx) ⟫ added L e (same L sx) ⟫ add-swap L T.arrow sx)) (through-by L S.second X),
+      )
 
   colift-to : {c a x f t u : Mor} → IsFreydMorphism C c a f → IsFreydMorphism C c x t → (U : IsFreydMorphism C a x u) → (m : Through C (C.target c) (C.source x) (C.target x) x (subtract C (C.compose f u) t)) → ColiftSolves c a x f t u m.by U.omega.by
   colift-to {c} {a} {x} {f} {t} {u} F T U m =
@@ -197,10 +202,11 @@ module _ {Obj Mor : Type 0} {C : CategoryData Obj Mor} (L : IsLinear C) where
   pub colift-exactly : {c a x : Presentation Mor} {f t : PresentationMor Mor} → Arrow (freyd_data C) c a f → Arrow (freyd_data C) c x t → Some-arrow (freyd_data C) a x (λ u. Same (freyd_data C) c x ((freyd_data C).compose f u) t) ↔ ((xs : List Mor) × IsSolution C (colift_system C c.relation a.relation x.relation f.alpha t.alpha) xs)
   colift-exactly {c} {a} {x} {f} {t} F T =
       let T' = below L T in
-      let F' = below L F in
-      (λ k. let m = modulo L k.holds in
+      let F' = below L F in (
+        λ k. let m = modulo L k.holds in
             (k.by.alpha ∷ m.by ∷ (below L k.arrow).omega.by ∷ [], to-three L (colift-fits F' T') (colift-to F' T' (below L k.arrow) m)),
-       λ s. let r = colift-by F T s.0 s.1 in record { by = record { from = a; to = x; alpha = get_or s.0 0 t.alpha }; arrow = turned r.0; holds = turned-same r.1 })
+        λ s. let r = colift-by F T s.0 s.1 in record { by = record { from = a; to = x; alpha = get_or s.0 0 t.alpha }; arrow = turned r.0; holds = turned-same r.1 },
+      )
 
   -- the answer of a solver, as a lift
   lift-answer : {x a b : Presentation Mor} {t f : PresentationMor Mor} → Arrow (freyd_data C) x b t → Arrow (freyd_data C) a b f → (r : Option (List Mor)) → AnswersSystem C (lift_system C x.relation a.relation b.relation t.alpha f.alpha) r → IsLift (freyd_data C) x a b t f (between x a (first_of t.alpha r))

@@ -1,12 +1,12 @@
 -- The Freyd category of a linear category is linear.
-use Rattle.std.proofs.Common.{◌≡◌, ℕ, ◌+◌, ◌*◌, ◌-◌, refl, sym, ap, subst}
+use Rattle.std.proofs.Common.{◌≡◌, ℕ, ◌+◌, ◌*◌, refl, sym, subst}
 use Rattle.cap_laws.specs.Linear.{CategoryData, IsLinear, Arrow, Same}
-use Rattle.cap_laws.specs.Universal.{negate, subtract}
-use Rattle.cap_laws.proofs.Calculus.{from-object, to-object, same, back, ◌⟫◌ as join, composed, added, scaled, assoc, unit-left, unit-right, zero-of, add-assoc, add-swap, add-zero, compose-add, add-compose, compose-scale, scale-compose, compose-zero, scale-prime, subtract-arrow}
+use Rattle.cap_laws.specs.Universal.{subtract}
+use Rattle.cap_laws.proofs.Calculus.{same, back, ◌⟫◌ as join, assoc, unit-left, unit-right, add-assoc, add-swap, add-zero, compose-add, add-compose, compose-scale, scale-compose, compose-zero, scale-prime}
 use Rattle.cap_laws.specs.Factor.{Through}
 use Rattle.cap_freyd_laws.specs.Freyd.{Presentation, PresentationMor, IsFreydMorphism, freyd_data}
 use Rattle.cap_laws.proofs.Differences.{subtract-zero, scale-add, scale-product, subtract-sums, subtract-scaled, subtract-products}
-use Rattle.cap_laws.proofs.Factor.{through-same, through-self, through-zero, through-add, through-scale, through-before, through-after, modulo-same, modulo-back, modulo-join, through-modulo}
+use Rattle.cap_laws.proofs.Factor.{through-same, through-self, through-zero, through-add, through-scale, through-before, through-after, modulo-same, modulo-back, modulo-join}
 
 module _ {Obj Mor : Type 0} {C : CategoryData Obj Mor} (L : IsLinear C) where
   pub relation : {a : Mor} → C.is_morphism a → Arrow C (C.source a) (C.target a) a
@@ -108,14 +108,14 @@ module _ {Obj Mor : Type 0} {C : CategoryData Obj Mor} (L : IsLinear C) where
         let g = below t.left in
         let g' = below t.right in
         (above-same (compose-arrow s.left t.left) (compose-arrow s.right t.right)
-            (through-same L (subtract-products L f.arrow f'.arrow g.arrow g'.arrow)
-                (through-add L (through-after L (modulo s) g.arrow g.omega) (through-before L f'.arrow (modulo t))))).congruent;
+        (through-same L (subtract-products L f.arrow f'.arrow g.arrow g'.arrow)
+        (through-add L (through-after L (modulo s) g.arrow g.omega) (through-before L f'.arrow (modulo t))))).congruent;
     add_congruent = λ s t.
         (above-same (add-arrow s.left t.left) (add-arrow s.right t.right)
-            (through-same L (subtract-sums L (below s.left).arrow (below t.left).arrow (below s.right).arrow (below t.right).arrow) (through-add L (modulo s) (modulo t)))).congruent;
+        (through-same L (subtract-sums L (below s.left).arrow (below t.left).arrow (below s.right).arrow (below t.right).arrow) (through-add L (modulo s) (modulo t)))).congruent;
     scale_congruent = λ n s.
         (above-same (scale-arrow n s.left) (scale-arrow n s.right)
-            (through-same L (subtract-scaled L n (below s.left).arrow (below s.right).arrow) (through-scale L n (modulo s)))).congruent;
+        (through-same L (subtract-scaled L n (below s.left).arrow (below s.right).arrow) (through-scale L n (modulo s)))).congruent;
     associative = λ p q r. (lifted (compose-arrow (compose-arrow p q) r) (compose-arrow p (compose-arrow q r)) (assoc L (below p).arrow (below q).arrow (below r).arrow)).congruent;
     unit_left = λ {a} p. (lifted (compose-arrow (identity-arrow a (below p).from) p) p (unit-left L (below p).arrow)).congruent;
     unit_right = λ {a} {b} p. (lifted (compose-arrow p (identity-arrow b (below p).to)) p (unit-right L (below p).arrow)).congruent;

@@ -1,14 +1,14 @@
 -- Direct sums and zero objects of the Freyd category.
-use Rattle.std.proofs.Common.{◌≡◌, ℕ, refl, sym, subst}
-use Rattle.cap_laws.specs.Linear.{CategoryData, IsLinear, Arrow, Same}
-use Rattle.cap_laws.specs.Universal.{subtract, IsDirectSum, IsZeroObject}
+use Rattle.std.proofs.Common.{sym, subst}
+use Rattle.cap_laws.specs.Linear.{CategoryData, IsLinear, Same}
+use Rattle.cap_laws.specs.Universal.{IsDirectSum, IsZeroObject}
 use Rattle.cap_laws.specs.declared.values.Sum.{Sum}
 use Rattle.cap_laws.proofs.Calculus.{from-object, to-object, same, back, ◌⟫◌ as join, composed, assoc, unit-right, compose-zero}
 use Rattle.cap_laws.specs.Factor.{Through, rows}
-use Rattle.cap_freyd_laws.specs.Freyd.{Presentation, PresentationMor, IsFreydMorphism, freyd_data}
+use Rattle.cap_freyd_laws.specs.Freyd.{Presentation, freyd_data}
 use Rattle.cap_freyd_laws.specs.Canonical.{HasSums, freyd_sum}
 use Rattle.cap_laws.proofs.Factor.{through-same, through-by, through-self, through-zero, modulo-same}
-use Rattle.cap_freyd_laws.proofs.Linear.{relation, below, lifted, freyd-linear}
+use Rattle.cap_freyd_laws.proofs.Linear.{relation, lifted, freyd-linear}
 use Rattle.cap_freyd_laws.proofs.Bridge.{arrow-of, same-of, zero-of}
 use Rattle.cap_laws.proofs.Blocks.{rows-arrow, in1-rows, in2-rows, rows-through}
 
@@ -29,11 +29,11 @@ module _ {Obj Mor : Type 0} {C : CategoryData Obj Mor} (L : IsLinear C) where
       let I1 = arrow-of L A R D.in1 (through-same L (back L (in1-rows L E f g)) (through-by L E.in1 R)) in
       let I2 = arrow-of L B R D.in2 (through-same L (back L (in2-rows L E f g)) (through-by L E.in2 R)) in
       let P1 = arrow-of L R A D.out1 (rows-through L E f g D.out1
-          (through-same L (assoc L A D.in1 D.out1 ⟫ composed L (same L A) D.unit1 ⟫ unit-right L A) (through-self L A))
-          (through-same L (assoc L B D.in2 D.out1 ⟫ composed L (same L B) D.zero21 ⟫ compose-zero L B (to-object L A)) (through-zero L (from-object L B) A))) in
+      (through-same L (assoc L A D.in1 D.out1 ⟫ composed L (same L A) D.unit1 ⟫ unit-right L A) (through-self L A))
+      (through-same L (assoc L B D.in2 D.out1 ⟫ composed L (same L B) D.zero21 ⟫ compose-zero L B (to-object L A)) (through-zero L (from-object L B) A))) in
       let P2 = arrow-of L R B D.out2 (rows-through L E f g D.out2
-          (through-same L (assoc L A D.in1 D.out2 ⟫ composed L (same L A) D.zero12 ⟫ compose-zero L A (to-object L B)) (through-zero L (from-object L A) B))
-          (through-same L (assoc L B D.in2 D.out2 ⟫ composed L (same L B) D.unit2 ⟫ unit-right L B) (through-self L B))) in
+      (through-same L (assoc L A D.in1 D.out2 ⟫ composed L (same L A) D.zero12 ⟫ compose-zero L A (to-object L B)) (through-zero L (from-object L A) B))
+      (through-same L (assoc L B D.in2 D.out2 ⟫ composed L (same L B) D.unit2 ⟫ unit-right L B) (through-self L B))) in
       record {
         in1 = I1;
         in2 = I2;

@@ -1,9 +1,8 @@
 -- Systems of two equations in three unknowns, and what a solution of them is.
-use Rattle.std.proofs.Common.{◌≡◌, ℕ, zero, suc, refl, sym, subst, List, [], ◌∷◌, length, get_or, arith}
+use Rattle.std.proofs.Common.{ℕ, suc, refl, subst, List, [], ◌∷◌, get_or, arith}
 use Rattle.cap_laws.specs.Linear.{CategoryData, IsLinear, Arrow, Same}
 use Rattle.cap_laws.specs.Systems.{Nth, Ends, IsTerm, IsEquation, IsSystem, IsSolution, total, term_of}
 use Rattle.cap_laws.specs.Systems.Nth.{here, further}
-use Rattle.cap_laws.specs.declared.values.Term.{Term}
 use Rattle.cap_laws.specs.declared.values.Equation.{Equation}
 use Rattle.cap_laws.specs.declared.values.System.{System}
 use Rattle.cap_laws.proofs.Calculus.{from-object, to-object, same, back, ◌⟫◌ as join, added, add-zero}

@@ -1,5 +1,5 @@
 -- The canonical objects and morphisms of the Freyd category, from direct sums, weak kernels and a solver below, each given as a function of data.
-use Rattle.std.specs.Prelude.{ℕ, List, [], ◌∷◌, Option, Some, None, unwrap_or}
+use Rattle.std.specs.Prelude.{List, [], ◌∷◌, Option, Some, None, unwrap_or}
 use Rattle.cap_laws.specs.Linear.{CategoryData, Arrow}
 use Rattle.cap_laws.specs.Factor.{rows}
 use Rattle.cap_laws.specs.Universal.{IsDirectSum, IsWeakKernel, negate, subtract}
@@ -72,8 +72,8 @@ abbrev pub three_system : {Obj Mor : Type 0} → Obj × Obj → Obj × Obj → O
 three_system u s w l1 r1 l2 r2 v l3 r3 l4 r4 z = record {
   unknowns = u ∷ s ∷ w ∷ [];
   equations =
-    record { terms = term_of l1 0 r1 ∷ term_of l2 1 r2 ∷ []; value = v }
-    ∷ record { terms = term_of l3 0 r3 ∷ term_of l4 2 r4 ∷ []; value = z } ∷ [];
+      record { terms = term_of l1 0 r1 ∷ term_of l2 1 r2 ∷ []; value = v }
+      ∷ record { terms = term_of l3 0 r3 ∷ term_of l4 2 r4 ∷ []; value = z } ∷ [];
 }
 
 -- a lift u of t: x→b along f: a→b, the objects named by their relations: u·f + s·b = t and x·u − w·a = 0

@@ -1,9 +1,9 @@
 -- The laws of the Freyd category of C, as statements on C.
-use Rattle.std.specs.Prelude.{◌≡◌, ◌↔◌, List, Option}
+use Rattle.std.specs.Prelude.{◌↔◌, List, Option}
 use Rattle.cap_laws.specs.declared.values.Sum.{Sum}
 use Rattle.cap_laws.specs.declared.values.System.{System}
 use Rattle.cap_laws.specs.Linear.{CategoryData, Arrow, Same}
-use Rattle.cap_laws.specs.Universal.{Some-arrow, IsZeroObject, IsDirectSum, IsKernel, IsCokernel, IsLift, IsColift, IsImage, IsAdditive}
+use Rattle.cap_laws.specs.Universal.{Some-arrow, IsZeroObject, IsKernel, IsCokernel, IsLift, IsColift, IsImage, IsAdditive}
 use Rattle.cap_laws.specs.Systems.{IsSystem, IsSolution}
 use Rattle.cap_freyd_laws.specs.Freyd.{Presentation, PresentationMor, IsFreydMorphism, freyd_data}
 use Rattle.cap_freyd_laws.specs.Canonical.{HasSums, freyd_sum, kernel_of, cokernel_of, morphism_system, congruence_system, lift_system, colift_system, lift_of, colift_of, image_of}
