@@ -3,7 +3,9 @@ use Rattle.std.proofs.Common.{refl}
 use Rattle.cap_laws.specs.Linear.{CategoryData, IsLinear, Arrow, Same}
 use Rattle.cap_laws.specs.Universal.{subtract}
 use Rattle.cap_laws.specs.Factor.{Through}
-use Rattle.cap_freyd_laws.specs.Freyd.{Presentation, PresentationMor, freyd_data}
+use Rattle.cap_freyd_laws.specs.declared.values.Presentation.{Presentation}
+use Rattle.cap_freyd_laws.specs.declared.values.PresentationMor.{PresentationMor}
+use Rattle.cap_freyd_laws.specs.Freyd.{freyd_data}
 use Rattle.cap_laws.proofs.Systems.{move, unmove}
 use Rattle.cap_freyd_laws.proofs.Linear.{below, above, modulo, above-same, null, null-at}
 

@@ -7,7 +7,9 @@ use Rattle.cap_freyd_laws.proofs.Kernel.{sum-at}
 use Rattle.cap_laws.proofs.Calculus.{to-object, back, ◌⟫◌ as join, unit-left, unit-right, subtracted}
 use Rattle.cap_laws.proofs.Opposite.{turn, turned, turn-same, turned-same}
 use Rattle.cap_laws.specs.Factor.{rows}
-use Rattle.cap_freyd_laws.specs.Freyd.{Presentation, PresentationMor, IsFreydMorphism, freyd_data}
+use Rattle.cap_freyd_laws.specs.declared.values.Presentation.{Presentation}
+use Rattle.cap_freyd_laws.specs.declared.values.PresentationMor.{PresentationMor}
+use Rattle.cap_freyd_laws.specs.Freyd.{IsFreydMorphism, freyd_data}
 use Rattle.cap_freyd_laws.specs.Canonical.{HasSums, cokernel_of}
 use Rattle.cap_laws.proofs.Factor.{through-same, modulo-same}
 use Rattle.cap_freyd_laws.proofs.Linear.{relation, below, freyd-linear}

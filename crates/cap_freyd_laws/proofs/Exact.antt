@@ -5,7 +5,9 @@ use Rattle.cap_laws.proofs.Calculus.{from-object, to-object, same, back, ◌⟫�
 use Rattle.cap_laws.proofs.Unique.{mono-cancels}
 use Rattle.cap_laws.proofs.Opposite.{turn, turned, turn-same, turned-same, opposite-linear}
 use Rattle.cap_laws.specs.Factor.{Through, rows}
-use Rattle.cap_freyd_laws.specs.Freyd.{Presentation, PresentationMor, freyd_data}
+use Rattle.cap_freyd_laws.specs.declared.values.Presentation.{Presentation}
+use Rattle.cap_freyd_laws.specs.declared.values.PresentationMor.{PresentationMor}
+use Rattle.cap_freyd_laws.specs.Freyd.{freyd_data}
 use Rattle.cap_laws.proofs.Differences.{subtract-part}
 use Rattle.cap_laws.proofs.Factor.{through-same, through-by, through-zero, through-before, through-self, through-other, modulo-back}
 use Rattle.cap_freyd_laws.proofs.Linear.{relation, below, freyd-linear}

@@ -5,7 +5,9 @@ use Rattle.cap_laws.specs.Universal.{IsKernel, IsDirectSum}
 use Rattle.cap_laws.specs.declared.values.Sum.{Sum}
 use Rattle.cap_laws.proofs.Calculus.{same, back, ◌⟫◌ as join, composed, assoc, subtract-arrow, subtract-compose}
 use Rattle.cap_laws.specs.Factor.{IsPreimage}
-use Rattle.cap_freyd_laws.specs.Freyd.{Presentation, PresentationMor, IsFreydMorphism, freyd_data}
+use Rattle.cap_freyd_laws.specs.declared.values.Presentation.{Presentation}
+use Rattle.cap_freyd_laws.specs.declared.values.PresentationMor.{PresentationMor}
+use Rattle.cap_freyd_laws.specs.Freyd.{IsFreydMorphism, freyd_data}
 use Rattle.cap_freyd_laws.specs.Canonical.{HasSums, HasWeakKernels, preimage, kernel_of, stack}
 use Rattle.cap_laws.proofs.Factor.{through-same, modulo-same}
 use Rattle.cap_freyd_laws.proofs.Linear.{relation, below, freyd-linear}

@@ -8,7 +8,9 @@ use Rattle.cap_laws.specs.declared.values.System.{System}
 use Rattle.cap_laws.proofs.Calculus.{from-object, to-object, same, back, ◌⟫◌ as join, composed, added, scaled, unit-left, unit-right, add-swap, scale-compose, subtract-add, negate-arrow, subtract-arrow, equal-from-subtract, subtract-from-equal}
 use Rattle.cap_laws.proofs.Opposite.{turn, turned, turn-same, turned-same}
 use Rattle.cap_laws.specs.Factor.{Through}
-use Rattle.cap_freyd_laws.specs.Freyd.{Presentation, PresentationMor, IsFreydMorphism, freyd_data}
+use Rattle.cap_freyd_laws.specs.declared.values.Presentation.{Presentation}
+use Rattle.cap_freyd_laws.specs.declared.values.PresentationMor.{PresentationMor}
+use Rattle.cap_freyd_laws.specs.Freyd.{IsFreydMorphism, freyd_data}
 use Rattle.cap_freyd_laws.specs.Canonical.{morphism_system, congruence_system, lift_system, colift_system, HasSolver, between, lift_of, colift_of}
 use Rattle.cap_laws.proofs.Differences.{subtract-part}
 use Rattle.cap_laws.proofs.Factor.{through-same, through-by, modulo-back}

@@ -4,7 +4,9 @@ use Rattle.cap_laws.specs.Linear.{CategoryData, IsLinear, Arrow, Same}
 use Rattle.cap_laws.specs.Universal.{subtract}
 use Rattle.cap_laws.proofs.Calculus.{same, back, ◌⟫◌ as join, assoc, unit-left, unit-right, add-assoc, add-swap, add-zero, compose-add, add-compose, compose-scale, scale-compose, compose-zero, scale-prime}
 use Rattle.cap_laws.specs.Factor.{Through}
-use Rattle.cap_freyd_laws.specs.Freyd.{Presentation, PresentationMor, IsFreydMorphism, freyd_data}
+use Rattle.cap_freyd_laws.specs.declared.values.Presentation.{Presentation}
+use Rattle.cap_freyd_laws.specs.declared.values.PresentationMor.{PresentationMor}
+use Rattle.cap_freyd_laws.specs.Freyd.{IsFreydMorphism, freyd_data}
 use Rattle.cap_laws.proofs.Differences.{subtract-zero, scale-add, scale-product, subtract-sums, subtract-scaled, subtract-products}
 use Rattle.cap_laws.proofs.Factor.{through-same, through-self, through-zero, through-add, through-scale, through-before, through-after, modulo-same, modulo-back, modulo-join}
 

@@ -5,7 +5,8 @@ use Rattle.cap_laws.specs.Universal.{IsDirectSum, IsZeroObject}
 use Rattle.cap_laws.specs.declared.values.Sum.{Sum}
 use Rattle.cap_laws.proofs.Calculus.{from-object, to-object, same, back, ◌⟫◌ as join, composed, assoc, unit-right, compose-zero}
 use Rattle.cap_laws.specs.Factor.{Through, rows}
-use Rattle.cap_freyd_laws.specs.Freyd.{Presentation, freyd_data}
+use Rattle.cap_freyd_laws.specs.declared.values.Presentation.{Presentation}
+use Rattle.cap_freyd_laws.specs.Freyd.{freyd_data}
 use Rattle.cap_freyd_laws.specs.Canonical.{HasSums, freyd_sum}
 use Rattle.cap_laws.proofs.Factor.{through-same, through-by, through-self, through-zero, modulo-same}
 use Rattle.cap_freyd_laws.proofs.Linear.{relation, lifted, freyd-linear}

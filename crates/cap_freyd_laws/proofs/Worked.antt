@@ -3,7 +3,8 @@ use Rattle.std.proofs.Common.{◌≡◌, ℕ, zero, suc, ◌<◌, refl, ap, ◌�
 use Rattle.cap_laws.specs.Linear.{CategoryData, Arrow}
 use Rattle.cap_laws.specs.Systems.{term_of}
 use Rattle.cap_laws.specs.Table.{Combination, table_data}
-use Rattle.cap_freyd_laws.specs.Freyd.{Presentation, IsFreydMorphism, freyd_data}
+use Rattle.cap_freyd_laws.specs.declared.values.Presentation.{Presentation}
+use Rattle.cap_freyd_laws.specs.Freyd.{IsFreydMorphism, freyd_data}
 use Rattle.cap_freyd_laws.specs.Canonical.{congruence_system}
 
 abbrev dual_product : ℕ → ℕ → List ℕ

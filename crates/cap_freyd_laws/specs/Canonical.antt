@@ -6,7 +6,8 @@ use Rattle.cap_laws.specs.Universal.{IsDirectSum, IsWeakKernel, negate, subtract
 use Rattle.cap_laws.specs.Systems.{IsSystem, AnswersSystem, term_of, one_system, first_of}
 use Rattle.cap_laws.specs.declared.values.Sum.{Sum}
 use Rattle.cap_laws.specs.declared.values.System.{System}
-use Rattle.cap_freyd_laws.specs.Freyd.{Presentation, PresentationMor}
+use Rattle.cap_freyd_laws.specs.declared.values.Presentation.{Presentation}
+use Rattle.cap_freyd_laws.specs.declared.values.PresentationMor.{PresentationMor}
 
 -- the function gives a direct sum of each two objects
 pub record HasSums {Obj Mor : Type 0} (C : CategoryData Obj Mor) (sum : Obj → Obj → Sum Mor) : Type 0 where

@@ -2,8 +2,8 @@
 use Rattle.cap_laws.specs.Linear.{CategoryData, Arrow}
 use Rattle.cap_laws.specs.Factor.{Through}
 use Rattle.cap_laws.specs.Universal.{subtract}
-pub use Rattle.cap_freyd_laws.specs.declared.values.Presentation.{Presentation}
-pub use Rattle.cap_freyd_laws.specs.declared.values.PresentationMor.{PresentationMor}
+use Rattle.cap_freyd_laws.specs.declared.values.Presentation.{Presentation}
+use Rattle.cap_freyd_laws.specs.declared.values.PresentationMor.{PresentationMor}
 
 -- alpha is a morphism from the relation a to the relation b: some omega has a·alpha = omega·b
 pub record IsFreydMorphism {Obj Mor : Type 0} (C : CategoryData Obj Mor) (a b alpha : Mor) : Type 0 where

@@ -5,7 +5,9 @@ use Rattle.cap_laws.specs.declared.values.System.{System}
 use Rattle.cap_laws.specs.Linear.{CategoryData, Arrow, Same}
 use Rattle.cap_laws.specs.Universal.{Some-arrow, IsZeroObject, IsKernel, IsCokernel, IsLift, IsColift, IsImage, IsAdditive}
 use Rattle.cap_laws.specs.Systems.{IsSystem, IsSolution}
-use Rattle.cap_freyd_laws.specs.Freyd.{Presentation, PresentationMor, IsFreydMorphism, freyd_data}
+use Rattle.cap_freyd_laws.specs.declared.values.Presentation.{Presentation}
+use Rattle.cap_freyd_laws.specs.declared.values.PresentationMor.{PresentationMor}
+use Rattle.cap_freyd_laws.specs.Freyd.{IsFreydMorphism, freyd_data}
 use Rattle.cap_freyd_laws.specs.Canonical.{HasSums, freyd_sum, kernel_of, cokernel_of, morphism_system, congruence_system, lift_system, colift_system, lift_of, colift_of, image_of}
 
 -- it is additive: the identity of a zero object, as a relation, is a zero object, and the block sum of relations is a direct sum
