@@ -45,7 +45,7 @@ impl<P: Additive + WeakKernels + Lifts> Freyd<P> {
         ensures { let K = P.category self.now.below in AnswersMorphism K (λ s. (P.compose_meets self.now.below a.now.relation alpha s ⊎ P.identity_meets self.now.below (K.source a.now.relation) s)
             ⊎ P.system_meets self.now.below (morphism_system K a.now.relation b.now.relation alpha) s) a.now b.now alpha result }
     {
-        let below = self.below();
+        let below = &self.below;
         let value = below.compose(alloc, &a.relation, &alpha)?;
         let x = below.source(&a.relation);
         let y = below.source(&b.relation);

@@ -7,4 +7,5 @@ pub mod Sums
 pub mod Abelian
 pub mod Systems
 pub mod Lifts
+pub mod Images
 mod Worked

@@ -40,3 +40,8 @@ pub fn law_freyd_cokernels<C: Additive>()
 pub fn law_freyd_lifts<C: Lifts>()
     ensures { (c : C) → FreydLifts (C.category c) (C.solution_of c) }
 {}
+
+/// The kernel of the cokernel, with the lift along it, is an image.
+pub fn law_freyd_images<C: Additive + WeakKernels + Lifts>()
+    ensures { (c : C) → FreydImages (C.category c) (C.sum_of c) (C.weak_kernel_of c) (C.solution_of c) }
+{}

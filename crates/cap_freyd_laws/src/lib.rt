@@ -5,3 +5,6 @@ pub mod laws;
 mod values;
 
 pub use values::{Presentation, PresentationMor};
+
+#[cfg(test)]
+mod tests;

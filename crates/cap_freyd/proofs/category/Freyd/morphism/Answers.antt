@@ -11,5 +11,11 @@ pub solve_system-requires : goal.solve_system-requires
 solve_system-requires g c =
     let L = g.met.P.Cat.linear c.args.self.now.below in
     let K = g.P.Cat.category c.args.self.now.below in
-    let e : c.in_ok-system.system ≡ morphism_system K c.args.a.now.relation c.args.b.now.relation c.args.alpha = rw c.in_ok-value.ensures.0 at (rw c.source-y.ensures at (rw c.source-x.ensures at (rw c.below-below.ensures at c.in_ok-system.ensures.0))) in
+    let e : c.in_ok-system.system ≡ morphism_system K c.args.a.now.relation c.args.b.now.relation c.args.alpha = rw c.in_ok-value.ensures.0 at (rw c.source-y.ensures at (rw c.source-x.ensures at c.in_ok-system.ensures.0)) in
     subst (λ s. IsSystem K s) (sym e) (morphism-is-system L c.requires.left c.requires.right c.requires.arrow)
+
+pub returns-then-is_none : goal.returns-then-is_none
+returns-then-is_none g c = ?
+
+pub returns : goal.returns
+returns g c = ?
