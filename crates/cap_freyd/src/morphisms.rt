@@ -51,9 +51,9 @@ impl<P: Additive + WeakKernels + Lifts> Freyd<P> {
         let y = below.source(&b.relation);
         let system = one_equation(below, alloc, x, y, &b.relation, value)?;
         let solution = below.solve_system(alloc, &system)?;
-        if solution.is_none() {
-            return Err(MorphismFault::NotAMorphism);
+        if solution.is_some() {
+            return Ok(between(below, alloc, a, b, alpha)?);
         }
-        Ok(between(below, alloc, a, b, alpha)?)
+        Err(MorphismFault::NotAMorphism)
     }
 }
