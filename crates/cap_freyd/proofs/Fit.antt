@@ -1,6 +1,6 @@
 -- The block sum of two relations can be formed, and is a morphism.
-use Rattle.std.proofs.Common.{◌≡◌, refl, sym, ◌∙◌}
-use Rattle.cap_laws.specs.Linear.{CategoryData, IsLinear, Arrow}
+use Rattle.std.proofs.Common.{sym, ◌∙◌}
+use Rattle.cap_laws.specs.Linear.{CategoryData, IsLinear}
 use Rattle.cap_laws.specs.declared.values.Sum.{Sum}
 use Rattle.cap_laws.proofs.Blocks.{rows-arrow}
 use Rattle.cap_freyd_laws.specs.Canonical.{HasSums, block_sum}

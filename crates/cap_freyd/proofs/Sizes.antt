@@ -1,5 +1,5 @@
 -- What meets one of two is within the limit, where what meets each is.
-use Rattle.std.proofs.Common.{◌≡◌, ◌⊎◌, inl, inr}
+use Rattle.std.proofs.Common.{◌⊎◌, inl, inr}
 use Rattle.cap_laws.specs.Answers.{Size, Fits}
 
 pub either : {met met' : Size → Type 0} → ((s : Size) → met s → Fits s) → ((s : Size) → met' s → Fits s) → (s : Size) → met s ⊎ met' s → Fits s

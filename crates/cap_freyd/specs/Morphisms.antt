@@ -1,7 +1,7 @@
 -- What a call answers that is handed the data of a morphism.
 use Rattle.std.specs.Prelude.{◌≡◌, Result, Ok, Err}
 use Rattle.cap_laws.specs.Answers.{Size, Fits, Answers}
-use Rattle.cap_laws.specs.Linear.{CategoryData, Arrow}
+use Rattle.cap_laws.specs.Linear.{CategoryData}
 use Rattle.cap_freyd_laws.specs.declared.values.Presentation.{Presentation}
 use Rattle.cap_freyd_laws.specs.declared.values.PresentationMor.{PresentationMor}
 use Rattle.cap_freyd_laws.specs.Freyd.{IsFreydMorphism}

@@ -1,7 +1,5 @@
-use Rattle.std.proofs.Common.{rules, ◌≡◌, ◌⊎◌, inl, inr, refl, sym, ◌∙◌, subst, ap, ◌↔◌, IsTrue, is_some, Option, List}
-use Rattle.cap_laws.specs.Answers.{Answers, Size, Fits}
+use Rattle.std.proofs.Common.{◌≡◌, sym, ◌∙◌, subst}
 use Rattle.cap_laws.specs.Systems.{IsSystem, AnswersSystem}
-use Rattle.cap_freyd_laws.specs.Freyd.{freyd_data, IsFreydMorphism}
 use Rattle.cap_freyd_laws.specs.Canonical.{morphism_system}
 use Rattle.cap_freyd_laws.proofs.Lifts.{morphism-is-system, morphism-exactly, solved-decides}
 use Rattle.cap_freyd.proofs.Options.{nothing-there}

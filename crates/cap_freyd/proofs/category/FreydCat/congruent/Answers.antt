@@ -1,6 +1,5 @@
-use Rattle.std.proofs.Common.{rules, ◌≡◌, ◌⊎◌, inl, inr, ◌-◌, refl, sym, subst, ap, ◌↔◌, IsTrue, is_some, Option, List}
-use Rattle.cap_laws.specs.Linear.{Arrow, Same}
-use Rattle.cap_laws.specs.Answers.{Answers, Size, Fits}
+use Rattle.std.proofs.Common.{◌≡◌, refl, sym, subst, ◌↔◌, IsTrue}
+use Rattle.cap_laws.specs.Linear.{Arrow}
 use Rattle.cap_laws.specs.Systems.{IsSystem, AnswersSystem}
 use Rattle.cap_freyd_laws.specs.Freyd.{freyd_data}
 use Rattle.cap_freyd_laws.specs.Canonical.{congruence_system}
@@ -32,6 +31,7 @@ returns g c =
     let r : c.in_ok-solution.solution ≡ g.P.Lifts.solution_of c.args.self.now.below S = rw e at c.in_ok-solution.ensures.0 in
     let a : AnswersSystem K S c.in_ok-solution.solution = subst (λ x. AnswersSystem K S x) (sym r) (g.met.P.Lifts.solves c.args.self.now.below S (congruence-is-system L F G)) in
     let d = solved-decides L (congruence-exactly L F G) c.in_ok-solution.solution a in
-    let sizes = rw c.target-x.ensures at c.in_ok-system.ensures.1 in
-    (subst (λ b. IsTrue b ↔ (freyd_data K).congruent f h) (sym c.is_some.ensures) (λ t. (d.0 t).congruent, λ t. d.1 (record { left = F; right = G; congruent = t })),
-     either (either c.in_ok-value.ensures.1 sizes) (rw e at c.in_ok-solution.ensures.1))
+    let sizes = rw c.target-x.ensures at c.in_ok-system.ensures.1 in (
+      subst (λ b. IsTrue b ↔ (freyd_data K).congruent f h) (sym c.is_some.ensures) (λ t. (d.0 t).congruent, λ t. d.1 (record { left = F; right = G; congruent = t })),
+      either (either c.in_ok-value.ensures.1 sizes) (rw e at c.in_ok-solution.ensures.1),
+    )
