@@ -1,5 +1,5 @@
 -- The answer of a solved system, as a morphism.
-use Rattle.std.proofs.Common.{◌≡◌, ◌∙◌, ℕ, ◌<◌, sym, ap, subst, List, Option, Some, None, length, get_or, arith}
+use Rattle.std.proofs.Common.{◌≡◌, ◌∙◌, ◌<◌, sym, ap, subst, List, Option, Some, None, length, get_or, arith}
 use Rattle.cap_laws.specs.Linear.{CategoryData}
 use Rattle.cap_laws.specs.Systems.{IsSolution, first_of}
 use Rattle.cap_laws.specs.declared.values.System.{System}

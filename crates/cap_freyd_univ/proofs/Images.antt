@@ -1,11 +1,10 @@
 -- The kernel of the cokernel is a morphism, and the lift along it is there.
 use Rattle.std.proofs.Common.{◌≡◌, refl, sym, ap, subst, List, Option, Some, None, unwrap_or}
-use Rattle.cap_laws.specs.Linear.{CategoryData, IsLinear, Arrow, Same}
+use Rattle.cap_laws.specs.Linear.{CategoryData, IsLinear, Arrow}
 use Rattle.cap_laws.specs.Universal.{IsLift, IsKernel, IsCokernel}
 use Rattle.cap_laws.specs.declared.values.Sum.{Sum}
 use Rattle.cap_laws.specs.declared.values.System.{System}
 use Rattle.cap_laws.proofs.Opposite.{turned, turned-same}
-use Rattle.cap_freyd_laws.specs.declared.values.Presentation.{Presentation}
 use Rattle.cap_freyd_laws.specs.declared.values.PresentationMor.{PresentationMor}
 use Rattle.cap_freyd_laws.specs.Freyd.{IsFreydMorphism, freyd_data}
 use Rattle.cap_freyd_laws.specs.Canonical.{HasSums, HasWeakKernels, HasSolver, cokernel_of, image_embedding, lift_of}
@@ -14,7 +13,7 @@ use Rattle.cap_freyd_laws.proofs.Cokernel.{freyd-cokernel}
 use Rattle.cap_freyd_laws.proofs.Lifts.{freyd-lift}
 
 pub image-made : {A : Type 0} (o : Option A) (e x m d : A) → x ≡ m → o ≡ Some e → ◌≡◌ {A = A × A} (e, x) (unwrap_or o d, m)
-image-made o e x m d p q = subst (λ o'. ◌≡◌ {A = A × A} (e, x) (unwrap_or o' d, m)) (sym q) (ap {B = A × A} (λ y. (e, y)) p)
+image-made {A} o e x m d p q = subst (λ o'. ◌≡◌ {A = A × A} (e, x) (unwrap_or o' d, m)) (sym q) (ap {B = A × A} (λ y. (e, y)) p)
 
 module _ {Obj Mor : Type 0} {C : CategoryData Obj Mor} (L : IsLinear C) {sum : Obj → Obj → Sum Mor} (S : HasSums C sum) {f : PresentationMor Mor} (p : IsFreydMorphism C f.from.relation f.to.relation f.alpha) where
   at-ends : Arrow (freyd_data C) f.from f.to f

@@ -1,5 +1,5 @@
 -- The sizes that the computations of universal objects meet: those of the calls below that they make.
-use Rattle.std.specs.Prelude.{◌≡◌, ℕ, ◌⊎◌, ◌-◌}
+use Rattle.std.specs.Prelude.{ℕ, ◌⊎◌, ◌-◌}
 use Rattle.cap_laws.specs.Answers.{Size}
 use Rattle.cap_laws.specs.Linear.{CategoryData}
 use Rattle.cap_laws.specs.declared.values.Sum.{Sum}

@@ -1,6 +1,5 @@
-use Rattle.std.proofs.Common.{◌≡◌, ◌<◌, refl, sym, subst, length, arith}
+use Rattle.std.proofs.Common.{◌<◌, refl, sym, subst, length, arith}
 use Rattle.cap_laws.specs.Linear.{Arrow}
-use Rattle.cap_laws.specs.Answers.{Answers}
 use Rattle.cap_laws.specs.Systems.{IsSystem}
 use Rattle.cap_laws.proofs.Sizes.{answers-after}
 use Rattle.cap_freyd_laws.specs.Freyd.{freyd_data}

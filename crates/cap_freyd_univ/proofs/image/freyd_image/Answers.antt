@@ -1,8 +1,7 @@
-use Rattle.std.proofs.Common.{◌≡◌, ◌∙◌, refl, sym, ap, subst, Option, Some, None}
+use Rattle.std.proofs.Common.{◌∙◌, sym, ap, subst}
 use Rattle.cap_freyd.proofs.Sizes.{either}
-use Rattle.cap_freyd_laws.specs.declared.values.PresentationMor.{PresentationMor}
 use Rattle.cap_freyd_laws.specs.Freyd.{IsFreydMorphism}
-use Rattle.cap_freyd_laws.specs.Canonical.{HasSums, HasWeakKernels, HasSolver, image_embedding, lift_of}
+use Rattle.cap_freyd_laws.specs.Canonical.{image_embedding, lift_of}
 use Rattle.cap_freyd_univ.proofs.Images.{image-made, cokernel-is-morphism, embedding-is-morphism, lift-is-there}
 use Rattle.cap_freyd_univ.proofs.image.freyd_image.Goals as goal
 

@@ -1,4 +1,4 @@
-use Rattle.std.proofs.Common.{◌≡◌, refl, sym, subst, ap, ◌∙◌}
+use Rattle.std.proofs.Common.{sym, subst, ap, ◌∙◌}
 use Rattle.cap_freyd_laws.proofs.Linear.{relation}
 use Rattle.cap_freyd_laws.proofs.Kernel.{preimage-at}
 use Rattle.cap_freyd_univ.proofs.kernels.freyd_kernel.Goals as goal

@@ -1,6 +1,5 @@
-use Rattle.std.proofs.Common.{◌≡◌, refl, sym, subst, ap, ◌∙◌}
+use Rattle.std.proofs.Common.{refl, sym, subst, ◌∙◌}
 use Rattle.cap_laws.specs.Linear.{Arrow}
-use Rattle.cap_laws.specs.declared.values.Sum.{Sum}
 use Rattle.cap_laws.proofs.Blocks.{rows-arrow}
 use Rattle.cap_freyd_univ.proofs.kernels.preimage_of.Goals as goal
 

@@ -1,4 +1,4 @@
-use Rattle.std.proofs.Common.{◌≡◌, ◌∙◌, sym, subst, Option, Some, None, List}
+use Rattle.std.proofs.Common.{◌∙◌, sym, subst, Some}
 use Rattle.cap_laws.specs.Systems.{AnswersSystem}
 use Rattle.cap_freyd_univ.proofs.FirstUnknown.{answer-made, answer-none, values-there}
 use Rattle.cap_freyd_univ.proofs.solved.first_unknown.Goals as goal
