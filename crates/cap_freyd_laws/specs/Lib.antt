@@ -1,0 +1,3 @@
+pub mod Freyd
+pub mod Canonical
+pub mod Laws

@@ -1,0 +1,2 @@
+pub mod FirstUnknown
+pub mod Images
