@@ -1,7 +1,7 @@
 -- The parts of a system.
 use Rattle.std.specs.Prelude.{◌≡◌, ℕ, List}
 use Rattle.cap_laws.specs.Linear.{CategoryData}
-use Rattle.cap_laws.specs.Systems.{Nth, Ends, IsEquation}
+use Rattle.cap_laws.specs.Systems.{Nth, Ends}
 use Rattle.cap_laws.specs.declared.values.Equation.{Equation}
 use Rattle.cap_homlaw.specs.Hom.{HomData}
 use Rattle.cap_solve_laws.specs.Systems.{system_matrix, values_row, unknowns_width, values_width}
@@ -11,11 +11,7 @@ use Rattle.cap_solve.specs.Blocks.{IsHeld}
 pub record AreEnds {Obj Mor : Type 0} (C : CategoryData Obj Mor) (us : List (Obj × Obj)) : Type 0 where
   pub each : (n : ℕ) (e : Ends us n) → C.is_object e.from × C.is_object e.to
 
--- the equations of a system
-pub record HasEquations {Obj Mor : Type 0} (C : CategoryData Obj Mor) (us : List (Obj × Obj)) (es : List (Equation Mor)) : Type 0 where
-  pub each : (n : ℕ) (e : Equation Mor) → Nth es n e → IsEquation C us e
-
--- their values are morphisms
+-- the values of equations are morphisms
 pub record AreValues {Obj Mor : Type 0} (C : CategoryData Obj Mor) (es : List (Equation Mor)) : Type 0 where
   pub each : (n : ℕ) (e : Equation Mor) → Nth es n e → C.is_morphism e.value
 

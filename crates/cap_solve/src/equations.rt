@@ -5,8 +5,9 @@ ghost use Rattle.cap_laws.specs.Answers.{Answers, numbers};
 ghost use Rattle.cap_laws.specs.Systems.{IsTerm, IsEquation, IsSystem};
 ghost use Rattle.cap_homlaw.specs.Hom.{hom_matrix};
 ghost use Rattle.cap_solve_laws.specs.Systems.{unknowns_width, values_width, in_rows, equation_columns, system_matrix, values_row};
+ghost use Rattle.cap_solve_laws.proofs.Equations.{AreEquations};
 ghost use Rattle.cap_solve.specs.Blocks.{IsBlockAdded};
-ghost use Rattle.cap_solve.specs.Parts.{AreEnds, AreValues, HasEquations, IsWritten};
+ghost use Rattle.cap_solve.specs.Parts.{AreEnds, AreValues, IsWritten};
 ghost use Rattle.cap_solve.specs.Sizes.{OneMeets, IsSizeInEquations};
 
 use crate::blocks::add_block;
@@ -111,7 +112,7 @@ fn write_equations<C: HomFp>(
     equations: &[Equation<C::Mor>],
 ) -> Result<Items<u16>, CatFault>
     requires unknowns { AreEnds (C.category c.now) unknowns.now }
-    requires equations { HasEquations (C.category c.now) unknowns.now equations.now }
+    requires equations { AreEquations (C.category c.now) unknowns.now equations.now }
     requires few { unknowns_width (C.hom c.now) unknowns.now ≤ 2048 }
     requires width { width ≡ values_width (C.category c.now) (C.hom c.now) equations.now }
     requires size { length cells.old ≡ unknowns_width (C.hom c.now) unknowns.now * width }

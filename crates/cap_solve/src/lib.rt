@@ -11,3 +11,6 @@ mod weak_kernels;
 
 pub use solved::Solved;
 pub use system::{Answer, solve};
+
+#[cfg(test)]
+mod tests;
