@@ -1,5 +1,5 @@
 -- Answers of calls after others, and sizes within the limits.
-use Rattle.std.proofs.Common.{◌≡◌, ◌⊎◌, ℕ, ◌-◌, ◌*◌, ◌^◌, ◌<◌, ◌≤◌, min, true, false, inl, inr, List, length, Result, Ok, Err, refl, sym, subst, rules}
+use Rattle.std.proofs.Common.{◌≡◌, ◌⊎◌, ℕ, ◌+◌, ◌-◌, ◌*◌, ◌^◌, ◌<◌, ◌≤◌, min, true, false, inl, inr, List, length, Result, Ok, Err, refl, sym, subst, rules, arith}
 use Rattle.cap_matrix.specs.Grid.{Grid, IsMatrix, fits_limits}
 use Rattle.cap_matrix.specs.Reduced.{IsNullBasis}
 use Rattle.cap_matrix.proofs.Filled.{fits_parts}
@@ -12,8 +12,10 @@ use Rattle.cap_laws.specs.declared.faults.CatFault.{CatFault}
 use Rattle.cap_laws.specs.declared.faults.CatFault.TheVariants.{TooLarge as too_large, NoMemory}
 use Rattle.cap_laws.specs.Answers.{Size, Fits, Names, Answers, numbers}
 use Rattle.cap_laws.specs.Systems.{Nth}
+use Rattle.cap_laws.proofs.Systems.{nth-below}
 use Rattle.cap_solve_laws.proofs.Solver.{null_rows_of, null_rows_of-is}
 use Rattle.cap_solve.specs.Sizes.{OneMeets}
+use Rattle.cap_solve.proofs.Places.{so_far_more}
 
 -- the fault of a part is a fault of the whole
 pub fault_of : {A B : Type 0} (met part : Size → Type 0) (right : A → Type 0) (first : B → Type 0) (e : CatFault) → ((s : Size) → part s → met s)
@@ -64,3 +66,16 @@ module _ (p : ℕ) (t : is_tabled p ≡ true) (m : Grid) (M : IsMatrix p m) wher
         rows_named = subst (λ n. size.rows ≡ min n (2 ^ 32 - 1)) l.rows (cut size.rows rows);
         columns_named = subst (λ n. size.cols ≡ min n (2 ^ 32 - 1)) l.cols (cut size.cols cols);
       })
+
+-- what the first i of a list meet fits
+pub record FitSoFar {A : Type 0} (xs : List A) (P : ℕ → A → Size → Type 0) (i : ℕ) : Type 0 where
+  pub each : (n : ℕ) (y : A) → Nth xs n y → n < i → (s : Size) → P n y s → Fits s
+
+pub fit_none : {A : Type 0} (xs : List A) (P : ℕ → A → Size → Type 0) → FitSoFar xs P 0
+fit_none xs P = record { each = λ n y q lt s m. absurd (omega (arith, lt)) }
+
+pub fit_more : {A : Type 0} (xs : List A) (P : ℕ → A → Size → Type 0) (i : ℕ) (x : A) → Nth xs i x → ((s : Size) → P i x s → Fits s) → FitSoFar xs P i → FitSoFar xs P (i + 1)
+fit_more xs P i x q p h = record { each = so_far_more xs (λ n y. (s : Size) → P n y s → Fits s) i x q p h.each }
+
+pub fit_all : {A : Type 0} (xs : List A) (P : ℕ → A → Size → Type 0) (i : ℕ) → length xs ≤ i → FitSoFar xs P i → (n : ℕ) (y : A) → Nth xs n y → (s : Size) → P n y s → Fits s
+fit_all xs P i all h n y q = h.each n y q (omega (arith, all, nth-below q))

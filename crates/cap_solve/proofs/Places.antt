@@ -8,7 +8,9 @@ use Rattle.cap_laws.specs.Systems.{Nth}
 use Rattle.cap_laws.specs.Systems.Nth.{here, further}
 use Rattle.cap_laws.proofs.Systems.{nth-exists, nth-get, nth-unique, nth-below}
 use Rattle.cap_laws.specs.declared.values.Equation.{Equation}
+use Rattle.cap_homlaw.specs.Rows.{AreResidues}
 use Rattle.cap_homlaw.specs.Hom.{HomData}
+use Rattle.cap_homlaw.proofs.Lists.{take-residues, drop-residues}
 use Rattle.cap_solve_laws.specs.Systems.{unknowns_width, values_width, values_row, morphisms_of}
 
 -- what stands at a place below the length
@@ -23,18 +25,12 @@ take_all [] = refl
 take_all (x ∷ xs) = ap (λ ys. x ∷ ys) (take_all xs)
 
 -- what holds of each place so far
-pub so_far_none : {A : Type 0} (xs : List A) (P : ℕ → A → Type 0) → (n : ℕ) (y : A) → Nth xs n y → n < 0 → P n y
-so_far_none xs P n y q lt = absurd (omega (arith, lt))
-
 pub so_far_more : {A : Type 0} (xs : List A) (P : ℕ → A → Type 0) (i : ℕ) (x : A) → Nth xs i x → P i x → ((n : ℕ) (y : A) → Nth xs n y → n < i → P n y)
     → (n : ℕ) (y : A) → Nth xs n y → n < i + 1 → P n y
 so_far_more xs P i x here_x p h n y q lt = ⊎_elim
     (λ e. subst (λ m. P m y) (sym e) (subst (λ z. P i z) (nth-unique here_x (subst (λ m. Nth xs m y) e q)) p))
     (λ ne. h n y q (omega arith))
     (cases_eq n i)
-
-pub so_far_all : {A : Type 0} (xs : List A) (P : ℕ → A → Type 0) (i : ℕ) → length xs ≤ i → ((n : ℕ) (y : A) → Nth xs n y → n < i → P n y) → (n : ℕ) (y : A) → Nth xs n y → P n y
-so_far_all xs P i all h n y q = h n y q (omega (arith, nth-below q))
 
 -- sums that are cut
 pub cut_sum : (a b n c : ℕ) → n ≡ min a c → min (n + min b c) c ≡ min (a + b) c
@@ -101,3 +97,10 @@ module _ {Obj Mor : Type 0} (C : CategoryData Obj Mor) (H : HomData Obj Mor) whe
 
   pub width-next : {es : List (Equation Mor)} {i : ℕ} {e : Equation Mor} → Nth es i e → values_width C H (take (i + 1) es) ≡ values_width C H (take i es) + H.dim (C.source e.value) (C.target e.value)
   width-next {es} {i} q = ap (λ k. values_width C H (take k es)) (let o : i + 1 ≡ suc i = omega arith in o) ∙ width-more q
+
+-- a stretch of a row of residues
+pub part-residues : {p n : ℕ} {row : List ℕ} → AreResidues p n row → (start d : ℕ) → start + d ≤ n → AreResidues p d (take d (drop start row))
+part-residues {p} {n} {row} R start d le =
+    let whole : n ≡ start + (n - start) = omega arith in
+    let rest : n - start ≡ d + (n - start - d) = omega arith in
+    take-residues d (n - start - d) (subst (λ k. AreResidues p k (drop start row)) rest (drop-residues start (n - start) (subst (λ k. AreResidues p k row) whole R)))

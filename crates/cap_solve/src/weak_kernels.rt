@@ -1,17 +1,18 @@
 // Weak kernels by generators.
-ghost use Rattle.std.specs.Prelude.{◌≡◌, ◌⊎◌, ◌<◌, map};
+ghost use Rattle.std.specs.Prelude.{◌≡◌, ◌⊎◌, ◌^◌, ◌<◌, map};
 ghost use Rattle.cap_matrix.specs.Grid.{IsMatrixOf};
 ghost use Rattle.cap_homlaw.specs.Hom.{hom_matrix};
 ghost use Rattle.cap_solve_laws.proofs.Solver.{solution_row, null_rows_of};
 ghost use Rattle.cap_solve.specs.Factors.{has_row, is_row};
 ghost use Rattle.cap_laws.specs.Answers.{Answers, numbers};
+ghost use Rattle.cap_laws.specs.declared.faults.CatFault.TheVariants.{TooLarge as TooLargeFault};
 ghost use Rattle.cap_solve_laws.proofs.WeakKernels.{kept_by, kept_of, null_morphisms, weak_kernel_of};
 ghost use Rattle.cap_solve_laws.specs.WeakKernels.{above};
 ghost use Rattle.cap_solve.specs.Sizes.{IsSizeInJoin, IsSizeInKeep, IsSizeInRows, IsSizeAtGenerator, IsSizeInWeakKernel};
 
 use cap_homlaw::HomFp;
 use cap_laws::{Additive, CatFault, Sum};
-use cap_matrix::{Matrix, MatrixFault};
+use cap_matrix::{Matrix, MatrixFault, TooLarge};
 use cap_reduce::{Solved as RowAnswer, null_rows, solve};
 use std::alloc::Global;
 
@@ -94,6 +95,18 @@ fn keep<C: HomFp + Additive>(
     joined(alloc, c, &k, &g)
 }
 
+/// The fault of a matrix past the limits.
+fn too_large(size: TooLarge) -> CatFault
+    ensures value { result ≡ TooLargeFault size.rows size.cols }
+    ensures rows { size.rows < 2 ^ 32 }
+    ensures cols { size.cols < 2 ^ 32 }
+{
+    CatFault::TooLarge {
+        rows: size.rows,
+        cols: size.cols,
+    }
+}
+
 /// The null rows of h(unit, f).
 fn null_rows_at<C: HomFp>(
     alloc: Global,
@@ -109,8 +122,11 @@ fn null_rows_at<C: HomFp>(
 {
     let matrix = c.h(alloc, unit, f)?;
     match null_rows(alloc, &matrix) {
-        Ok(rows) => Ok(rows),
-        Err(MatrixFault::TooLarge(size)) => Err(CatFault::from(size)),
+        Ok(rows) => {
+            let _ = rows.cells();
+            Ok(rows)
+        }
+        Err(MatrixFault::TooLarge(size)) => Err(too_large(size)),
         Err(MatrixFault::NoMemory) => Err(CatFault::NoMemory),
     }
 }
