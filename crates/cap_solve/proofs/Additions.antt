@@ -3,7 +3,7 @@ use Rattle.std.proofs.Common.{◌≡◌, ℕ, ◌+◌, ◌-◌, ◌*◌, ◌%◌
 use Rattle.std.proofs.lemmas.List.{get_or-set_same, get_or-set_other, get_or_past}
 use Rattle.std.proofs.lemmas.Nat.{same_from_place, mul-le}
 use Rattle.std.proofs.lemmas.Bool.{cases_eq, cases_lt}
-use Rattle.std.proofs.Math.Nat.{mod-lt, mod-add-mod, add-mod-mod, add_assoc}
+use Rattle.std.proofs.Math.Nat.{mod-lt, mod-eq_of_lt, mod-add-mod, add-mod-mod, add-zero, add_assoc}
 use Rattle.cap_matrix.specs.Grid.{Grid, entry}
 use Rattle.cap_matrix.specs.Buffer.{IsBufferOf}
 use Rattle.cap_matrix.proofs.Buffers.{buffer_matrix, buffer-at}
@@ -68,7 +68,16 @@ block_row p w first mid now row col n m f g room h l same =
       small = l.small;
     }
 
--- to one block twice
+-- nothing is added to a block, and two blocks are added to one place
+pub block_none : (p w : ℕ) (now : List ℕ) (row col n m : ℕ) (f : ℕ → ℕ → ℕ) → ((i j : ℕ) → i < n → j < m → f i j ≡ 0) → ((k : ℕ) → get_or now k 0 < p) → IsBlockAdded p w now now row col n m f
+block_none p w now row col n m f none small = record {
+  inside = λ i j lt below.
+      let x = cell now w (row + i) (col + j) in
+      sym (ap (λ y. (x + y) % p) (none i j lt below) ∙ ap (λ y. y % p) (add-zero x) ∙ mod-eq_of_lt (small ((row + i) * w + (col + j))));
+  outside = λ i j lt out. refl;
+  small = small;
+}
+
 pub block_more : (p w : ℕ) (first mid now : List ℕ) (row col n m : ℕ) (f g h : ℕ → ℕ → ℕ) → IsBlockAdded p w first mid row col n m f → IsBlockAdded p w mid now row col n m g
     → ((i j : ℕ) → i < n → j < m → h i j ≡ f i j + g i j) → IsBlockAdded p w first now row col n m h
 block_more p w first mid now row col n m f g h a b same = record {

@@ -19,6 +19,10 @@ use Rattle.cap_solve_laws.specs.Systems.{unknowns_width, values_width, in_rows, 
 use Rattle.cap_solve_laws.proofs.Equations.{AreTerms, AreEquations, terms_rest, equations_rest, in_rows-matrix, columns-matrix, system-matrix}
 use Rattle.cap_solve.proofs.Places.{unknowns-within, width-within}
 
+-- an entry of what a term adds to an equation of n columns
+abbrev pub term_entry : {Obj Mor : Type 0} → CategoryData Obj Mor → HomData Obj Mor → List (Obj × Obj) → ℕ → ℕ → ℕ → Term Mor → ℕ
+term_entry C H us n i j t = entry (in_rows H C.prime n us t.unknown (hom_matrix C H t.left t.right)).entries i j
+
 module _ {Obj Mor : Type 0} {C : CategoryData Obj Mor} {H : HomData Obj Mor} (L : IsLinear C) (S : IsHom C H) where
   -- the rows of one unknown, and those of the others
   pub in_rows-before : {n u : ℕ} {us : List (Obj × Obj)} {a b : Obj} {k : Grid} → Nth us u (a, b) → IsMatrixOf C.prime (H.dim a b) n k → (i c : ℕ) → i < unknowns_width H (take u us) → c < n
@@ -66,12 +70,12 @@ module _ {Obj Mor : Type 0} {C : CategoryData Obj Mor} {H : HomData Obj Mor} (L 
     block-matrix t T = in_rows-matrix L S T.ends.is (hom_matrix-matrix L S T.left T.right)
 
     pub columns-at : (ts : List (Term Mor)) → AreTerms C us a b ts → (i c : ℕ) → i < unknowns_width H us → c < H.dim a b
-        → entry (equation_columns C H us (H.dim a b) ts).entries i c ≡ sum_by (λ (t : Term Mor). entry (in_rows H C.prime (H.dim a b) us t.unknown (hom_matrix C H t.left t.right)).entries i c) ts % C.prime
+        → entry (equation_columns C H us (H.dim a b) ts).entries i c ≡ sum_by (term_entry C H us (H.dim a b) i c) ts % C.prime
     columns-at [] h i c lt below = zero-at C.prime (unknowns_width H us) (H.dim a b) i c lt below ∙ sym (zero-mod C.prime)
     columns-at (t ∷ ts) h i c lt below =
         let n = H.dim a b in
         let T = block-matrix t (h.each 0 t here) in
-        let f = λ (x : Term Mor). entry (in_rows H C.prime n us x.unknown (hom_matrix C H x.left x.right)).entries i c in
+        let f = term_entry C H us n i c in
         sum-at (equation_columns C H us n ts) T i c lt below
         ∙ ap (λ z. (f t + z) % C.prime) (columns-at ts (terms_rest h) i c lt below)
         ∙ add-mod-mod (f t) (sum_by f ts) C.prime

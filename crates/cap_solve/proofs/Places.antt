@@ -6,12 +6,13 @@ use Rattle.cap_matrix.specs.Grid.{fits_limits}
 use Rattle.cap_laws.specs.Linear.{CategoryData}
 use Rattle.cap_laws.specs.Systems.{Nth}
 use Rattle.cap_laws.specs.Systems.Nth.{here, further}
-use Rattle.cap_laws.proofs.Systems.{nth-exists, nth-get, nth-unique, nth-below}
+use Rattle.cap_laws.proofs.Systems.{nth-exists, nth-get, nth-unique, nth-zero, nth-suc}
 use Rattle.cap_laws.specs.declared.values.Equation.{Equation}
 use Rattle.cap_homlaw.specs.Rows.{AreResidues}
 use Rattle.cap_homlaw.specs.Hom.{HomData}
 use Rattle.cap_homlaw.proofs.Lists.{take-residues, drop-residues}
 use Rattle.cap_solve_laws.specs.Systems.{unknowns_width, values_width, values_row, morphisms_of}
+use Rattle.cap_solve.specs.Parts.{AreEnds}
 
 -- what stands at a place below the length
 pub nth-at : {A : Type 0} (xs : List A) (i : ℕ) (d : A) → i < length xs → Nth xs i (get_or xs i d)
@@ -23,6 +24,16 @@ nth-here xs i x lt is = subst (λ z. Nth xs i z) (sym is) (nth-at xs i x lt)
 pub take_all : {A : Type 0} (xs : List A) → take (length xs) xs ≡ xs
 take_all [] = refl
 take_all (x ∷ xs) = ap (λ ys. x ∷ ys) (take_all xs)
+
+pub nth-take : {A : Type 0} (xs : List A) (n k : ℕ) (x : A) → Nth (take n xs) k x → Nth xs k x
+nth-take xs zero k x q = elim q [ ]
+nth-take [] (suc n) k x q = elim q [ ]
+nth-take (y ∷ ys) (suc n) zero x q = subst (λ z. Nth (y ∷ ys) zero z) (nth-zero q) here
+nth-take (y ∷ ys) (suc n) (suc k) x q = further (nth-take ys n k x (nth-suc q))
+
+-- the ends of the first unknowns
+pub ends-taken : {Obj Mor : Type 0} {C : CategoryData Obj Mor} (us : List (Obj × Obj)) (n : ℕ) → AreEnds C us → AreEnds C (take n us)
+ends-taken us n E = record { each = λ k e. E.each k (record { from = e.from; to = e.to; is = nth-take us n k (e.from, e.to) e.is }) }
 
 -- what holds of each place so far
 pub so_far_more : {A : Type 0} (xs : List A) (P : ℕ → A → Type 0) (i : ℕ) (x : A) → Nth xs i x → P i x → ((n : ℕ) (y : A) → Nth xs n y → n < i → P n y)

@@ -11,7 +11,7 @@ use Rattle.cap_homlaw.specs.Meets.{HomMeets}
 use Rattle.cap_solve_laws.specs.Systems.{unknowns_width, system_matrix, values_row, values_width}
 use Rattle.cap_solve_laws.specs.Sums.{SumData, opposite_sums}
 use Rattle.cap_solve_laws.proofs.Solver.{solution_row, null_rows_of}
-use Rattle.cap_solve_laws.proofs.WeakKernels.{factor_row, kept_of, first_morphisms}
+use Rattle.cap_solve_laws.proofs.WeakKernels.{kept_of, first_morphisms}
 
 -- what the calls of an additive category meet that a weak kernel makes
 pub record SumMeets (Obj Mor : Type 0) : Type 1 where
@@ -61,13 +61,17 @@ abbrev pub IsSizeInKeep : {Obj Mor : Type 0} → SumMeets Obj Mor → CategoryDa
 IsSizeInKeep V C Z k g (Some row) z = ⊥
 IsSizeInKeep V C Z k g None z = IsSizeInJoin V C Z k g z
 
+-- the system u·k = g by which g is tested, and its join to k where it has no solution
+abbrev pub IsSizeInTest : {Obj Mor : Type 0} → SumMeets Obj Mor → HomMeets Obj Mor → CategoryData Obj Mor → HomData Obj Mor → SumData Obj Mor → Mor → Mor → Mor → Size → Type 0
+IsSizeInTest V W C H Z unit k g z = (W.h unit k z ⊎ W.nu g z) ⊎ IsSizeInKeep V C Z k g (solution_row C.prime (hom_matrix C H unit k) (H.nu g)) z
+
 -- the n-th row at x: its morphism g into a, the system u·k = g by which it is tested against those kept before, and its join to them
 abbrev pub IsSizeAtRow : {Obj Mor : Type 0} → SumMeets Obj Mor → HomMeets Obj Mor → CategoryData Obj Mor → HomData Obj Mor → SumData Obj Mor → Obj → Obj → Mor → List (List ℕ) → ℕ → Size → Type 0
 IsSizeAtRow V W C H Z x a k rows n z =
     let row = slice_index_or rows n [] in
     let g = H.back x a row in
     let kept = kept_of C H Z k (map (λ r. H.back x a r) (take n rows)) in
-    (W.back x a row z ⊎ (W.h (C.identity x) kept z ⊎ W.nu g z)) ⊎ IsSizeInKeep V C Z kept g (factor_row C H kept g) z
+    W.back x a row z ⊎ IsSizeInTest V W C H Z (C.identity x) kept g z
 
 -- rows at x one after another
 pub record IsSizeInRows {Obj Mor : Type 0} (V : SumMeets Obj Mor) (W : HomMeets Obj Mor) (C : CategoryData Obj Mor) (H : HomData Obj Mor) (Z : SumData Obj Mor) (x a : Obj) (k : Mor) (rows : List (List ℕ)) (z : Size) : Type 0 where

@@ -5,6 +5,7 @@ ghost use Rattle.cap_homlaw.specs.Hom.{hom_matrix};
 ghost use Rattle.cap_solve_laws.proofs.Solver.{solution_row, null_rows_of};
 ghost use Rattle.cap_solve.specs.Factors.{has_row, is_row};
 ghost use Rattle.cap_laws.specs.Answers.{Answers, numbers};
+ghost use Rattle.cap_laws.specs.Linear.{Arrow};
 ghost use Rattle.cap_laws.specs.declared.faults.CatFault.TheVariants.{TooLarge as TooLargeFault};
 ghost use Rattle.cap_solve_laws.proofs.WeakKernels.{kept_by, kept_of, null_morphisms, weak_kernel_of};
 ghost use Rattle.cap_solve_laws.specs.WeakKernels.{above};
@@ -116,7 +117,6 @@ fn null_rows_at<C: HomFp>(
 ) -> Result<Matrix, CatFault>
     requires unit { (C.category c.now).is_morphism unit.now }
     requires test { (C.category c.now).is_morphism f.now }
-    requires meet { (C.category c.now).target unit.now ≡ (C.category c.now).source f.now }
     ensures { let n = null_rows_of (C.category c.now).prime (hom_matrix (C.category c.now) (C.hom c.now) unit.now f.now) in
         Answers (λ z. (C.hom_meets c.now).h unit.now f.now z ⊎ (z ≡ numbers n.row_count n.column_count)) (λ m. m ≡ n) result }
 {
@@ -150,7 +150,8 @@ fn keep_rows<C: HomFp + Additive>(
         let a = (C.HomFp.category c.now).source f.now in
         Answers (IsSizeInRows (record { zero_object = C.zero_object_meets c.now; identity = C.HomFp.identity_meets c.now; zero = C.HomFp.zero_meets c.now; add = C.HomFp.add_meets c.now; compose = C.HomFp.compose_meets c.now; direct_sum = C.direct_sum_meets c.now })
         (C.hom_meets c.now) (C.HomFp.category c.now) (C.hom c.now) (record { zero_object = C.zero_object_of c.now; sum = C.sum_of c.now }) x a k rows.now.entries)
-        (λ m. m ≡ kept_of (C.HomFp.category c.now) (C.hom c.now) (record { zero_object = C.zero_object_of c.now; sum = C.sum_of c.now }) k (map (λ r. (C.hom c.now).back x a r) rows.now.entries)) result }
+        (λ m. (m ≡ kept_of (C.HomFp.category c.now) (C.hom c.now) (record { zero_object = C.zero_object_of c.now; sum = C.sum_of c.now }) k (map (λ r. (C.hom c.now).back x a r) rows.now.entries))
+        × Arrow (C.HomFp.category c.now) ((C.HomFp.category c.now).source m) a m) result }
 {
     let cells = rows.cells();
     let n = rows.cols() as usize;
@@ -177,7 +178,8 @@ fn keep_generator<C: HomFp + Additive>(
     requires target { (C.HomFp.category c.now).target k ≡ (C.HomFp.category c.now).source f.now }
     ensures { Answers (IsSizeAtGenerator (record { zero_object = C.zero_object_meets c.now; identity = C.HomFp.identity_meets c.now; zero = C.HomFp.zero_meets c.now; add = C.HomFp.add_meets c.now; compose = C.HomFp.compose_meets c.now; direct_sum = C.direct_sum_meets c.now })
         (C.hom_meets c.now) (C.HomFp.category c.now) (C.hom c.now) (record { zero_object = C.zero_object_of c.now; sum = C.sum_of c.now }) f.now number k)
-        (λ m. m ≡ kept_of (C.HomFp.category c.now) (C.hom c.now) (record { zero_object = C.zero_object_of c.now; sum = C.sum_of c.now }) k (null_morphisms (C.HomFp.category c.now) (C.hom c.now) f.now number)) result }
+        (λ m. (m ≡ kept_of (C.HomFp.category c.now) (C.hom c.now) (record { zero_object = C.zero_object_of c.now; sum = C.sum_of c.now }) k (null_morphisms (C.HomFp.category c.now) (C.hom c.now) f.now number))
+        × Arrow (C.HomFp.category c.now) ((C.HomFp.category c.now).source m) ((C.HomFp.category c.now).source f.now) m) result }
 {
     let x = c.generator(alloc, number)?;
     let unit = c.identity(alloc, &x)?;

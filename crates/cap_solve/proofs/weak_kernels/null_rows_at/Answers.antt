@@ -20,7 +20,7 @@ returns-in-Ok g c =
     let L = g.met.C.Cat.linear q in
     let W = (g.C.HomFp.hom_meets q).h c.args.unit.now c.args.f.now in
     let m = hom_matrix C H c.args.unit.now c.args.f.now in
-    let M = hom_matrix-matrix L (g.met.C.HomFp.is_hom q) (record { is = c.requires.unit; from = refl; to = refl }) (record { is = c.requires.test; from = sym c.requires.meet; to = refl }) in
+    let M = hom_matrix-matrix L (g.met.C.HomFp.is_hom q) (record { is = c.requires.unit; from = refl; to = refl }) (record { is = c.requires.test; from = refl; to = refl }) in
     let rows = c.in-Ok.rows in
     let basis = subst (λ (x : Grid). IsNullBasis x rows) c.in_ok-matrix.ensures.0 c.in-Ok.ensures in
     let e = null_rows_are C.prime L.prime_tabled m M.is rows basis in (
@@ -38,7 +38,7 @@ returns-in-Err-TooLarge g c =
     let W = (g.C.HomFp.hom_meets q).h c.args.unit.now c.args.f.now in
     let m = hom_matrix C H c.args.unit.now c.args.f.now in
     let n = null_rows_of C.prime m in
-    let M = hom_matrix-matrix L (g.met.C.HomFp.is_hom q) (record { is = c.requires.unit; from = refl; to = refl }) (record { is = c.requires.test; from = sym c.requires.meet; to = refl }) in
+    let M = hom_matrix-matrix L (g.met.C.HomFp.is_hom q) (record { is = c.requires.unit; from = refl; to = refl }) (record { is = c.requires.test; from = refl; to = refl }) in
     let size = c.in-Err-TooLarge.size in
     let made = subst (λ (v : MatrixFault). IsNullRows c.in_ok-matrix.matrix (Err v)) c.in-Err-TooLarge.field-0-is c.in-Err-TooLarge.ensures in
     let large = subst (λ (x : Grid). IsLargeNullBasis x size) c.in_ok-matrix.ensures.0 made in
