@@ -7,6 +7,7 @@ use Rattle.cap_matrix.specs.Buffer.{IsBufferOf}
 use Rattle.cap_matrix.proofs.Buffers.{buffer_matrix}
 use Rattle.cap_matrix.proofs.Entries.{small-at}
 use Rattle.cap_laws.specs.Linear.{CategoryData, IsLinear, Arrow}
+use Rattle.cap_laws.specs.declared.values.Sum.{Sum}
 use Rattle.cap_laws.proofs.Calculus.{from-object}
 use Rattle.cap_laws.proofs.Blocks.{rows-arrow}
 use Rattle.cap_homlaw.specs.Rows.{AreResidues}
@@ -20,6 +21,13 @@ use Rattle.cap_laws.specs.Answers.{Size}
 use Rattle.cap_solve_laws.proofs.Solver.{solution_row}
 use Rattle.cap_solve.specs.Sizes.{SumMeets, IsSizeInTest}
 use Rattle.cap_solve.proofs.Additions.{line_part, line_length}
+
+-- the sizes and the sums of a category's calls
+abbrev pub sum_meets : {Obj Mor : Type 0} → (Size → Type 0) → (Obj → Size → Type 0) → (Obj → Obj → Size → Type 0) → (Mor → Mor → Size → Type 0) → (Mor → Mor → Size → Type 0) → (Obj → Obj → Size → Type 0) → SumMeets Obj Mor
+sum_meets z i o a c d = record { zero_object = z; identity = i; zero = o; add = a; compose = c; direct_sum = d }
+
+abbrev pub sum_data : {Obj Mor : Type 0} → Obj → (Obj → Obj → Sum Mor) → SumData Obj Mor
+sum_data z s = record { zero_object = z; sum = s }
 
 -- what is kept is a morphism into the same object
 module _ {Obj Mor : Type 0} {C : CategoryData Obj Mor} {Z : SumData Obj Mor} (L : IsLinear C) (A : HasSums C Z) {a : Obj} where

@@ -30,6 +30,10 @@ pub own_size : {Obj Mor : Type 0} {C : CategoryData Obj Mor} (H : HomData Obj Mo
 own_size {C = C} H {a = a} {t = t} T = ap (λ x. H.dim x (C.target t.right)) T.left.from ∙ ap (λ y. H.dim a y) T.right.to
 
 module _ {Obj Mor : Type 0} {C : CategoryData Obj Mor} {H : HomData Obj Mor} (L : IsLinear C) (S : IsHom C H) where
+  -- the coefficients of a value
+  pub value-long : {us : List (Obj × Obj)} {e : Equation Mor} → IsEquation C us e → length (H.nu e.value) ≡ H.dim (C.source e.value) (C.target e.value)
+  value-long E = (S.nu_row (record { is = E.value; from = refl; to = refl })).long
+
   -- a block that is added in the rows of one unknown is added in all rows, with 0 in those of the others
   pub block_in_rows : {u n : ℕ} {a b : Obj} {us : List (Obj × Obj)} {k : Grid} → Nth us u (a, b) → IsMatrixOf C.prime (H.dim a b) n k → (w : ℕ) (first now : List ℕ) (row col : ℕ)
       → row ≡ unknowns_width H (take u us) → col + n ≤ w → ((i : ℕ) → get_or first i 0 < C.prime) → IsBlockAdded C.prime w first now row col (H.dim a b) n (entry k.entries)

@@ -121,14 +121,13 @@ fn write_equations<C: HomFp>(
         (λ row. IsWritten (C.category c.now) (C.hom c.now) unknowns.now equations.now cells.new row) result }
 {
     let mut values = Vec::new(alloc);
+    let mut start: usize = 0;
     for equation in equations {
-        let columns = Columns {
-            start: values.len(),
-            width,
-        };
+        let columns = Columns { start, width };
         add_terms(alloc, c, cells, columns, unknowns, equation)?;
         let row = c.nu(alloc, &equation.value)?;
         values.extend_from_slice(row.as_slice())?;
+        start += row.len();
     }
     Ok(Items::new(values))
 }

@@ -123,7 +123,7 @@ returns-in_err-x g c =
     let part = ap (λ k. take k (drop start row)) same ∙ ap (λ k. take d (drop k row)) c.loop-from.invariant.start in
     let taken = take (start + c.dim.result - start) (drop start row) in
     let e = c.in_err-x.field-0.0 in
-    let is : c.from_residual-in_err-x.result ≡ Err e = search rules in
+    let is : c.from_residual.result ≡ Err e = search rules in
     let met = IsSizeInMorphisms W H us row in
     let right = λ (xs : List _). xs ≡ morphisms_of H us row in
     subst (λ r. Answers met right r) (sym is)
