@@ -22,6 +22,9 @@ module _ {Obj Mor : Type 0} {C : CategoryData Obj Mor} {H : HomData Obj Mor} (L 
       let V = values-are L S s I in
       record { long = V.long ∙ sym M.to; residues = λ k lt. V.residues k (omega (arith, lt, M.to)) }
 
+  pub matrix-prime : (system_matrix C H s.unknowns s.equations).prime ≡ C.prime
+  matrix-prime = (matrix-is L S s I).is.prime
+
   pub row-solution : (x : List ℕ) → IsSolution (system_matrix C H s.unknowns s.equations) (values_row H s.equations) x → Some x ≡ solution_row C.prime (system_matrix C H s.unknowns s.equations) (values_row H s.equations)
   row-solution x r =
       let M = system_matrix C H s.unknowns s.equations in

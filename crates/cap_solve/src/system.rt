@@ -10,7 +10,7 @@ use crate::solutions::morphisms;
 use cap_homlaw::HomFp;
 use cap_laws::{CatFault, System};
 use cap_names::Items;
-use cap_reduce::{Solved, solve as solve_row};
+use cap_reduce::Solved;
 use std::alloc::Global;
 
 /// What a system has: morphisms for its unknowns, or a column that shows that there are none.
@@ -42,11 +42,14 @@ pub fn solve<C: HomFp>(
     ensures { Answers (IsSizeInSystem (C.hom_meets c.now) (C.category c.now) (C.hom c.now) s.now) (IsAnswered (C.category c.now) (C.hom c.now) s.now) result }
 {
     let (matrix, values) = row_equation(alloc, c, s)?;
-    match solve_row(alloc, &matrix, values.as_slice())? {
-        Solved::Row(row) => {
-            let xs = morphisms(alloc, c, s.unknowns.as_slice(), row.as_slice())?;
+    let row = values.as_slice();
+    match cap_reduce::solve(alloc, &matrix, row)? {
+        Solved::Row(x) => {
+            let unknowns = s.unknowns.as_slice();
+            let solution = x.as_slice();
+            let xs = morphisms(alloc, c, unknowns, solution)?;
             Ok(Answer::Solution(xs))
         }
-        Solved::Obstruction(column) => Ok(Answer::Obstruction(column)),
+        Solved::Obstruction(y) => Ok(Answer::Obstruction(y)),
     }
 }

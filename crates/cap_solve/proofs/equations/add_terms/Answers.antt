@@ -121,7 +121,7 @@ returns-in_err-add_term g c =
     let d = H.dim (C.source t.left) (C.target t.right) in
     let e = c.in_err-add_term.field-0.0 in
     let is : c.from_residual.result ≡ Err e = search rules in
-    let met = λ z. OneMeets c.args.equation.now.terms (λ x. W.h x.left x.right z) in
+    let met = λ (z : Size). OneMeets c.args.equation.now.terms (λ x. W.h x.left x.right z) in
     let right = λ (u : _). IsBlockAdded C.prime w c.args.cells.now now 0 start (unknowns_width H us) n (entry (equation_columns C H us n c.args.equation.now.terms).entries) in
     let first = λ (u : _). IsBlockAdded C.prime w c.loop-term.cells now 0 start (unknowns_width H us) d (entry (in_rows H C.prime d us t.unknown (hom_matrix C H t.left t.right)).entries) in
     subst (λ r. Answers met right r) (sym is)

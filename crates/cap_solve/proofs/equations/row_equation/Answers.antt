@@ -137,7 +137,7 @@ returns-in_err-row g c =
     let m = values_width C H c.args.s.now.equations in
     let e = c.in_err-row.field-0.0 in
     let is : c.from_residual-in_err-row.result ≡ Err e = search rules in
-    let met = λ z. (z ≡ numbers n m) ⊎ IsSizeInEquations W c.args.s.now.equations z in
+    let met = λ (z : Size). (z ≡ numbers n m) ⊎ IsSizeInEquations W c.args.s.now.equations z in
     let right = λ (x : Grid × List ℕ). x ≡ (system_matrix C H c.args.s.now.unknowns c.args.s.now.equations, values_row H c.args.s.now.equations) in
     subst (λ r. Answers met right r) (sym is)
     (fault_of met (IsSizeInEquations W es) right (λ row. IsWritten C H us es c.write_equations.new.cells row) e

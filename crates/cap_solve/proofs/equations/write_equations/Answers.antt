@@ -45,7 +45,7 @@ overflow_add-start g c =
     let S = g.met.C.HomFp.is_hom q in
     let at = nth-here es i e c.loop-equation-test.true c.equation-item.is in
     let inside = columns_inside L S c.args.unknowns.now es c.requires.equations i e at c.args.width c.loop-equation.start c.requires.width c.loop-equation.invariant.start in
-    let long = c.len.ensures ∙ ap (λ (l : List ℕ). length l) c.in_ok-row.ensures.0 ∙ value-long L S (c.requires.equations.each i e at) in
+    let long = c.len-start.ensures ∙ ap (λ (l : List ℕ). length l) c.in_ok-row.ensures.0 ∙ value-long L S (c.requires.equations.each i e at) in
     omega (arith, inside, long, c.ranges.width)
 
 pub loop-equation-init : goal.loop-equation-init
@@ -83,8 +83,8 @@ loop-equation-preserved g c =
     let now = c.add_terms.new.cells in
     let n = H.dim (C.source e.value) (C.target e.value) in
     let B = c.in_ok-add_terms.ensures.0 in
-    let long = c.len.ensures ∙ ap (λ (l : List ℕ). length l) c.in_ok-row.ensures.0 ∙ value-long L S (E.each i e at) in
-    let end : start + n ≡ start + c.len.result = omega (arith, long) in
+    let long = c.len-start.ensures ∙ ap (λ (l : List ℕ). length l) c.in_ok-row.ensures.0 ∙ value-long L S (E.each i e at) in
+    let end : start + n ≡ start + c.len-start.result = omega (arith, long) in
     let next = width-next C H at in
     record {
       start = omega (arith, long, h.start, next);
@@ -136,7 +136,7 @@ returns-in_err-add_terms g c =
     let now = c.add_terms.new.cells in
     let n = H.dim (C.source x.value) (C.target x.value) in
     let e = c.in_err-add_terms.field-0.0 in
-    let is : c.from_residual.result ≡ Err e = search rules in
+    let is : c.from_residual.result ≡ Err e = cc in
     let right = λ (row : List ℕ). IsWritten C H us es now row in
     let first = λ (u : _). IsBlockAdded C.prime c.args.width c.loop-equation.cells now 0 c.loop-equation.start (unknowns_width H us) n (entry (equation_columns C H us n x.terms).entries) in
     subst (λ r. Answers (IsSizeInEquations W es) right r) (sym is)

@@ -53,7 +53,7 @@ loop-number-preserved g c =
     let f = c.args.f.now in
     let n = c.loop-number.number in
     let first = C.zero Z.zero_object (C.source f) in
-    let answer = c.in_ok-kept-in-loop-number.ensures in
+    let answer = c.in_ok-kept-2.ensures in
     record {
       kept = answer.0.0 ∙ ap (λ k. kept_of C H Z k (null_morphisms C H f n)) c.loop-number.invariant.kept ∙ sym (generators-next C H Z f first n);
       arrow = answer.0.1;
@@ -113,8 +113,8 @@ returns-in_err-kept g c =
     (fault_of (IsSizeInWeakKernel V W C H Z f) (V.zero z' a') right (λ x. x ≡ C.zero z' a') e
     (λ s m. inl (inr (subst (λ y. V.zero Z.zero_object y s) c.source.ensures (subst (λ x. V.zero x a' s) c.in_ok-zero_object.ensures.0 m)))) c.in_err-kept.ensures)
 
-pub returns-in_err-kept-in-loop-number : goal.returns-in_err-kept-in-loop-number
-returns-in_err-kept-in-loop-number g c =
+pub returns-in_err-kept-2 : goal.returns-in_err-kept-2
+returns-in_err-kept-2 g c =
     let q = c.args.c.now in
     let C = g.C.Cat.category q in
     let H = g.C.HomFp.hom q in
@@ -126,9 +126,9 @@ returns-in_err-kept-in-loop-number g c =
     let n = c.loop-number.number in
     let kept = c.loop-number.kept in
     let lt : n < H.generators = omega (arith, c.loop-number-test.true, c.generators-number-end.ensures) in
-    let e = c.in_err-kept-in-loop-number.field-0.0 in
-    let is : c.from_residual-in_err-kept-in-loop-number.result ≡ Err e = search rules in
+    let e = c.in_err-kept-2.field-0.0 in
+    let is : c.from_residual-in_err-kept-2.result ≡ Err e = search rules in
     let right = λ (x : _). x ≡ weak_kernel_of C H Z f in
     subst (λ r. Answers (IsSizeInWeakKernel V W C H Z f) right r) (sym is)
     (fault_of (IsSizeInWeakKernel V W C H Z f) (IsSizeAtGenerator V W C H Z f n kept) right (λ m. (m ≡ kept_of C H Z kept (null_morphisms C H f n)) × Arrow C (C.source m) a m) e
-    (λ s m. inr (record { number = n; below = lt; meets = subst (λ k. IsSizeAtGenerator V W C H Z f n k s) c.loop-number.invariant.kept m })) c.in_err-kept-in-loop-number.ensures)
+    (λ s m. inr (record { number = n; below = lt; meets = subst (λ k. IsSizeAtGenerator V W C H Z f n k s) c.loop-number.invariant.kept m })) c.in_err-kept-2.ensures)
