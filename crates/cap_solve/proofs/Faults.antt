@@ -1,5 +1,6 @@
 -- Answers of calls after others, and sizes within the limits.
-use Rattle.std.proofs.Common.{◌≡◌, ◌⊎◌, ℕ, ◌+◌, ◌-◌, ◌*◌, ◌^◌, ◌<◌, ◌≤◌, min, true, false, inl, inr, List, length, Result, Ok, Err, refl, sym, subst, rules, arith}
+use Rattle.std.proofs.Common.{◌≡◌, ◌⊎◌, ℕ, ◌+◌, ◌-◌, ◌*◌, ◌^◌, ◌<◌, ◌≤◌, min, true, false, inl, inr, List, length, Result, Ok, Err, refl, sym, ap, subst, rules, arith}
+use Rattle.std.specs.Result.{IsErrAnd}
 use Rattle.cap_matrix.specs.Grid.{Grid, IsMatrix, fits_limits}
 use Rattle.cap_matrix.specs.Reduced.{IsNullBasis}
 use Rattle.cap_matrix.proofs.Filled.{fits_parts}
@@ -16,6 +17,11 @@ use Rattle.cap_laws.proofs.Systems.{nth-below}
 use Rattle.cap_solve_laws.proofs.Solver.{null_rows_of, null_rows_of-is}
 use Rattle.cap_solve.specs.Sizes.{OneMeets}
 use Rattle.cap_solve.proofs.Places.{so_far_more}
+
+-- the fault that a `?` hands on
+pub err-is : {A : Type 0} (r : Result A CatFault) (e : CatFault) → IsErrAnd r (λ x. x ≡ e) → r ≡ Err e
+err-is (Ok v) e h = absurd h
+err-is (Err x) e h = ap Err h
 
 -- the fault of a part is a fault of the whole
 pub fault_of : {A B : Type 0} (met part : Size → Type 0) (right : A → Type 0) (first : B → Type 0) (e : CatFault) → ((s : Size) → part s → met s)

@@ -1,4 +1,4 @@
-use Rattle.std.proofs.Common.{◌≡◌, ◌+◌, ◌%◌, ◌<◌, ℕ, List, length, take, Result, Err, refl, sym, ap, ◌∙◌, subst, arith, rules}
+use Rattle.std.proofs.Common.{◌≡◌, ◌+◌, ◌%◌, ◌<◌, ℕ, List, length, take, Result, Err, refl, sym, ap, ◌∙◌, subst, arith}
 use Rattle.std.specs.List.{sum_by}
 use Rattle.std.proofs.lemmas.List.Sums.{sum_by_more}
 use Rattle.std.proofs.Math.Nat.{mod-mod}
@@ -11,7 +11,7 @@ use Rattle.cap_solve.specs.Blocks.{IsBlockAdded}
 use Rattle.cap_solve.specs.Sizes.{OneMeets}
 use Rattle.cap_solve.proofs.Additions.{block_none, block_more, block_same}
 use Rattle.cap_solve.proofs.Entries.{term_entry, columns-at}
-use Rattle.cap_solve.proofs.Faults.{fault_of, fit_none, fit_more, fit_all, each_fits}
+use Rattle.cap_solve.proofs.Faults.{err-is, fault_of, fit_none, fit_more, fit_all, each_fits}
 use Rattle.cap_solve.proofs.Places.{nth-here, take_all}
 use Rattle.cap_solve.proofs.Written.{own_term, own_size}
 use Rattle.cap_solve.proofs.equations.add_terms.Goals as goal
@@ -120,10 +120,10 @@ returns-in_err-add_term g c =
     let now = c.add_term.new.cells in
     let d = H.dim (C.source t.left) (C.target t.right) in
     let e = c.in_err-add_term.field-0.0 in
-    let is : c.from_residual.result ≡ Err e = search rules in
+    let is = err-is c.from_residual.result e c.from_residual.ensures.1 in
     let met = λ (z : Size). OneMeets c.args.equation.now.terms (λ x. W.h x.left x.right z) in
-    let right = λ (u : _). IsBlockAdded C.prime w c.args.cells.now now 0 start (unknowns_width H us) n (entry (equation_columns C H us n c.args.equation.now.terms).entries) in
-    let first = λ (u : _). IsBlockAdded C.prime w c.loop-term.cells now 0 start (unknowns_width H us) d (entry (in_rows H C.prime d us t.unknown (hom_matrix C H t.left t.right)).entries) in
+    let right = λ (u : Unit {0}). IsBlockAdded C.prime w c.args.cells.now now 0 start (unknowns_width H us) n (entry (equation_columns C H us n c.args.equation.now.terms).entries) in
+    let first = λ (u : Unit {0}). IsBlockAdded C.prime w c.loop-term.cells now 0 start (unknowns_width H us) d (entry (in_rows H C.prime d us t.unknown (hom_matrix C H t.left t.right)).entries) in
     subst (λ r. Answers met right r) (sym is)
     (fault_of met (W.h t.left t.right) right first e
     (λ s m. subst (λ x. OneMeets x (λ y. W.h y.left y.right s)) c.as_slice-term-items.ensures

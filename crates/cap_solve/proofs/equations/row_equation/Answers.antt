@@ -9,7 +9,7 @@ use Rattle.cap_solve_laws.proofs.Equations.{AreEquations, system-matrix}
 use Rattle.cap_solve.specs.Blocks.{IsHeld}
 use Rattle.cap_solve.specs.Parts.{AreEnds, AreValues, IsWritten}
 use Rattle.cap_solve.specs.Sizes.{IsSizeInEquations}
-use Rattle.cap_solve.proofs.Faults.{fault_of, either_fits, size_fits}
+use Rattle.cap_solve.proofs.Faults.{err-is, fault_of, either_fits, size_fits}
 use Rattle.cap_solve.proofs.Places.{uncut_small, past_limits}
 use Rattle.cap_solve.proofs.Written.{written_residues, written_matrix}
 use Rattle.cap_solve.proofs.equations.row_equation.Goals as goal
@@ -65,7 +65,8 @@ write_equations-requires-clause-size g c =
     let H = g.C.HomFp.hom c.args.c.now in
     let parts = fits_parts c.unknown_count-rows.result c.value_count-cols.result (sym c.fits.ensures ∙ c.if-not-fits.false) in
     let er = uncut_small (unknowns_width H c.as_slice-unknowns.result.now) c.unknown_count-rows.result parts.0 c.unknown_count-rows.ensures in
-    subst (λ n. length c.in_ok-cells.cells.items ≡ n * c.value_count-cols.result) er (search rules)
+    let base : length c.deref_mut.result.now ≡ c.unknown_count-rows.result * c.value_count-cols.result = search rules in
+    subst (λ n. length c.deref_mut.result.now ≡ n * c.value_count-cols.result) er base
 
 pub from_cells-requires-clause-residues : goal.from_cells-requires-clause-residues
 from_cells-requires-clause-residues g c =
@@ -136,7 +137,7 @@ returns-in_err-row g c =
     let n = unknowns_width H c.args.s.now.unknowns in
     let m = values_width C H c.args.s.now.equations in
     let e = c.in_err-row.field-0.0 in
-    let is : c.from_residual-in_err-row.result ≡ Err e = search rules in
+    let is = err-is c.from_residual-in_err-row.result e c.from_residual-in_err-row.ensures.1 in
     let met = λ (z : Size). (z ≡ numbers n m) ⊎ IsSizeInEquations W c.args.s.now.equations z in
     let right = λ (x : Grid × List ℕ). x ≡ (system_matrix C H c.args.s.now.unknowns c.args.s.now.equations, values_row H c.args.s.now.equations) in
     subst (λ r. Answers met right r) (sym is)

@@ -7,7 +7,7 @@ use Rattle.cap_solve_laws.specs.Systems.{unknowns_width, values_width, system_ma
 use Rattle.cap_solve.specs.Blocks.{IsBlockAdded}
 use Rattle.cap_solve.specs.Parts.{IsWritten}
 use Rattle.cap_solve.specs.Sizes.{OneMeets, IsSizeInEquations}
-use Rattle.cap_solve.proofs.Faults.{fault_of, either_fits, fit_none, fit_more, fit_all, each_fits}
+use Rattle.cap_solve.proofs.Faults.{err-is, fault_of, either_fits, fit_none, fit_more, fit_all, each_fits}
 use Rattle.cap_solve.proofs.Places.{nth-here, values-next, width-next, take_all}
 use Rattle.cap_solve.proofs.Written.{columns_inside, columns_written, columns_after, value-long}
 use Rattle.cap_solve.proofs.equations.write_equations.Goals as goal
@@ -136,9 +136,9 @@ returns-in_err-add_terms g c =
     let now = c.add_terms.new.cells in
     let n = H.dim (C.source x.value) (C.target x.value) in
     let e = c.in_err-add_terms.field-0.0 in
-    let is : c.from_residual.result ≡ Err e = cc in
+    let is = err-is c.from_residual.result e c.from_residual.ensures.1 in
     let right = λ (row : List ℕ). IsWritten C H us es now row in
-    let first = λ (u : _). IsBlockAdded C.prime c.args.width c.loop-equation.cells now 0 c.loop-equation.start (unknowns_width H us) n (entry (equation_columns C H us n x.terms).entries) in
+    let first = λ (u : Unit {0}). IsBlockAdded C.prime c.args.width c.loop-equation.cells now 0 c.loop-equation.start (unknowns_width H us) n (entry (equation_columns C H us n x.terms).entries) in
     subst (λ r. Answers (IsSizeInEquations W es) right r) (sym is)
     (fault_of (IsSizeInEquations W es) (λ z. OneMeets x.terms (λ t. W.h t.left t.right z)) right first e (λ s m. record { number = i; item = x; is = at; meets = inl m }) c.in_err-add_terms.ensures)
 
@@ -155,7 +155,7 @@ returns-in_err-row g c =
     let at = nth-here es i x c.loop-equation-test.true c.equation-item.is in
     let now = c.add_terms.new.cells in
     let e = c.in_err-row.field-0.0 in
-    let is : c.from_residual-in_err-row.result ≡ Err e = search rules in
+    let is = err-is c.from_residual-in_err-row.result e c.from_residual-in_err-row.ensures.1 in
     let right = λ (row : List ℕ). IsWritten C H us es now row in
     subst (λ r. Answers (IsSizeInEquations W es) right r) (sym is)
     (fault_of (IsSizeInEquations W es) (W.nu x.value) right (λ (row : List ℕ). row ≡ H.nu x.value) e (λ s m. record { number = i; item = x; is = at; meets = inr m }) c.in_err-row.ensures)

@@ -5,7 +5,7 @@ use Rattle.cap_laws.proofs.Systems.{nth-below}
 use Rattle.cap_homlaw.specs.Rows.{AreResidues}
 use Rattle.cap_solve_laws.specs.Systems.{unknowns_width, morphisms_of}
 use Rattle.cap_solve.specs.Sizes.{IsSizeInMorphisms}
-use Rattle.cap_solve.proofs.Faults.{fault_of, fit_none, fit_more}
+use Rattle.cap_solve.proofs.Faults.{err-is, fault_of, fit_none, fit_more}
 use Rattle.cap_solve.proofs.Places.{nth-here, unknowns-within, unknowns-next, morphisms-next, take_all, part-residues}
 use Rattle.cap_solve.proofs.solutions.morphisms.Goals as goal
 
@@ -123,7 +123,7 @@ returns-in_err-x g c =
     let part = ap (λ k. take k (drop start row)) same ∙ ap (λ k. take d (drop k row)) c.loop-from.invariant.start in
     let taken = take (start + c.dim.result - start) (drop start row) in
     let e = c.in_err-x.field-0.0 in
-    let is : c.from_residual.result ≡ Err e = search rules in
+    let is = err-is c.from_residual.result e c.from_residual.ensures.1 in
     let met = IsSizeInMorphisms W H us row in
     let right = λ (xs : List _). xs ≡ morphisms_of H us row in
     subst (λ r. Answers met right r) (sym is)

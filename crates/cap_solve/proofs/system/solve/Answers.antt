@@ -1,4 +1,4 @@
-use Rattle.std.proofs.Common.{◌≡◌, ◌⊎◌, ◌<◌, ℕ, inl, inr, List, length, get_or, Result, Err, refl, sym, ap, ◌∙◌, subst, arith, rules}
+use Rattle.std.proofs.Common.{◌≡◌, ◌⊎◌, ◌<◌, ℕ, inl, inr, List, length, get_or, Result, Err, refl, sym, ap, ◌∙◌, subst, arith}
 use Rattle.cap_matrix.specs.Grid.{Grid}
 use Rattle.cap_matrix.specs.Reduced.{IsSolution, IsObstruction}
 use Rattle.cap_laws.specs.Answers.{Answers, Size, Fits, numbers}
@@ -8,7 +8,7 @@ use Rattle.cap_solve_laws.proofs.Solver.{solution_row}
 use Rattle.cap_solve.specs.Answered.{IsAnswered}
 use Rattle.cap_solve.specs.Parts.{AreEnds}
 use Rattle.cap_solve.specs.Sizes.{IsSizeInEquations, IsSizeInMorphisms, IsSizeInAnswer, IsSizeInSystem}
-use Rattle.cap_solve.proofs.Faults.{fault_of, either_fits}
+use Rattle.cap_solve.proofs.Faults.{err-is, fault_of, either_fits}
 use Rattle.cap_solve.proofs.RowAnswers.{row-values, matrix-prime, row-unknowns, solved-is, answer-met, answer-meets, none-meets}
 use Rattle.cap_solve.proofs.system.solve.Goals as goal
 
@@ -64,7 +64,7 @@ returns-in_err-matrix g c =
     let W = g.C.HomFp.hom_meets q in
     let s = c.args.s.now in
     let e = c.in_err-matrix.field-0.0 in
-    let is : c.from_residual.result ≡ Err e = search rules in
+    let is = err-is c.from_residual.result e c.from_residual.ensures.1 in
     let part = λ (z : Size). (z ≡ numbers (unknowns_width H s.unknowns) (values_width C H s.equations)) ⊎ IsSizeInEquations W s.equations z in
     subst (λ r. Answers (IsSizeInSystem W C H s) (IsAnswered C H s) r) (sym is)
     (fault_of (IsSizeInSystem W C H s) part (IsAnswered C H s) (λ (x : Grid × List ℕ). x ≡ (system_matrix C H s.unknowns s.equations, values_row H s.equations)) e (λ z m. inl m) c.in_err-matrix.ensures)
@@ -85,7 +85,7 @@ returns-in_err-xs g c =
     let us = c.as_slice-unknowns.result.now in
     let y = c.as_slice-solution.result.now in
     let e = c.in_err-xs.field-0.0 in
-    let is : c.from_residual-in_err-xs.result ≡ Err e = search rules in
+    let is = err-is c.from_residual-in_err-xs.result e c.from_residual-in_err-xs.ensures.1 in
     subst (λ r. Answers (IsSizeInSystem W C H s) (IsAnswered C H s) r) (sym is)
     (fault_of (IsSizeInSystem W C H s) (IsSizeInMorphisms W H us y) (IsAnswered C H s) (λ xs. xs ≡ morphisms_of H us y) e
     (λ z m. inr (answer-met L S s c.requires W x r z (subst (λ l. IsSizeInMorphisms W H l x z) c.as_slice-unknowns.ensures (subst (λ (l : List ℕ). IsSizeInMorphisms W H us l z) c.as_slice-solution.ensures m)))) c.in_err-xs.ensures)

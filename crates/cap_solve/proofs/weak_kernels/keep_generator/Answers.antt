@@ -1,4 +1,4 @@
-use Rattle.std.proofs.Common.{◌≡◌, ◌⊎◌, ◌<◌, ℕ, inl, inr, List, map, Result, Err, refl, sym, ap, ◌∙◌, subst, rules}
+use Rattle.std.proofs.Common.{◌≡◌, ◌⊎◌, ◌<◌, ℕ, inl, inr, List, map, Result, Err, refl, sym, ap, ◌∙◌, subst}
 use Rattle.cap_matrix.specs.Grid.{Grid, IsMatrixOf}
 use Rattle.cap_reduce.proofs.NullBasis.{basis-matrix}
 use Rattle.cap_laws.specs.Linear.{Arrow}
@@ -9,7 +9,7 @@ use Rattle.cap_homlaw.proofs.TwoSided.{hom_matrix-matrix}
 use Rattle.cap_solve_laws.proofs.Solver.{null_rows_of, null_rows_of-is}
 use Rattle.cap_solve_laws.proofs.WeakKernels.{kept_of, null_morphisms}
 use Rattle.cap_solve.specs.Sizes.{IsSizeInRows, IsSizeAtGenerator}
-use Rattle.cap_solve.proofs.Faults.{fault_of, either_fits}
+use Rattle.cap_solve.proofs.Faults.{err-is, fault_of, either_fits}
 use Rattle.cap_solve.proofs.Kept.{sum_meets, sum_data}
 use Rattle.cap_solve.proofs.weak_kernels.keep_generator.Goals as goal
 
@@ -75,7 +75,7 @@ returns-in_err-x g c =
     let f = c.args.f.now in
     let n = c.args.number in
     let e = c.in_err-x.field-0.0 in
-    let is : c.from_residual.result ≡ Err e = search rules in
+    let is = err-is c.from_residual.result e c.from_residual.ensures.1 in
     let right = λ (m : _). (m ≡ kept_of C H Z c.args.k (null_morphisms C H f n)) × Arrow C (C.source m) (C.source f) m in
     subst (λ r. Answers (IsSizeAtGenerator V W C H Z f n c.args.k) right r) (sym is)
     (fault_of (IsSizeAtGenerator V W C H Z f n c.args.k) (W.generator n) right (λ z. z ≡ H.generator n) e (λ s m. inl (inl (inl m))) c.in_err-x.ensures)
@@ -92,7 +92,7 @@ returns-in_err-unit g c =
     let n = c.args.number in
     let x = c.in_ok-x.x in
     let e = c.in_err-unit.field-0.0 in
-    let is : c.from_residual-in_err-unit.result ≡ Err e = search rules in
+    let is = err-is c.from_residual-in_err-unit.result e c.from_residual-in_err-unit.ensures.1 in
     let right = λ (m : _). (m ≡ kept_of C H Z c.args.k (null_morphisms C H f n)) × Arrow C (C.source m) (C.source f) m in
     subst (λ r. Answers (IsSizeAtGenerator V W C H Z f n c.args.k) right r) (sym is)
     (fault_of (IsSizeAtGenerator V W C H Z f n c.args.k) (V.identity x) right (λ z. z ≡ C.identity x) e
@@ -113,7 +113,7 @@ returns-in_err-rows g c =
     let nulls = λ (u : _). null_rows_of C.prime (hom_matrix C H u f) in
     let part = λ (u : _) (s : Size). W.h u f s ⊎ (s ≡ numbers (nulls u).row_count (nulls u).column_count) in
     let e = c.in_err-rows.field-0.0 in
-    let is : c.from_residual-in_err-rows.result ≡ Err e = search rules in
+    let is = err-is c.from_residual-in_err-rows.result e c.from_residual-in_err-rows.ensures.1 in
     let right = λ (m : _). (m ≡ kept_of C H Z c.args.k (null_morphisms C H f n)) × Arrow C (C.source m) (C.source f) m in
     subst (λ r. Answers (IsSizeAtGenerator V W C H Z f n c.args.k) right r) (sym is)
     (fault_of (IsSizeAtGenerator V W C H Z f n c.args.k) (part unit) right (λ (z : Grid). z ≡ nulls unit) e

@@ -1,4 +1,4 @@
-use Rattle.std.proofs.Common.{◌≡◌, ◌+◌, ◌-◌, ◌*◌, ◌<◌, ◌≤◌, ℕ, inl, inr, List, map, length, take, drop, get_or, Result, Err, [], refl, sym, ap, ◌∙◌, subst, arith, rules, ⊎_elim}
+use Rattle.std.proofs.Common.{◌≡◌, ◌+◌, ◌-◌, ◌*◌, ◌<◌, ◌≤◌, ℕ, inl, inr, List, map, length, take, drop, get_or, Result, Err, [], refl, sym, ap, ◌∙◌, subst, arith, ⊎_elim}
 use Rattle.cap_matrix.specs.Grid.{Grid}
 use Rattle.cap_laws.specs.Linear.{Arrow}
 use Rattle.cap_laws.specs.Answers.{Answers, Size, Fits}
@@ -8,7 +8,7 @@ use Rattle.cap_solve_laws.specs.Sums.{HasSums}
 use Rattle.cap_solve_laws.proofs.Solver.{solution_row}
 use Rattle.cap_solve_laws.proofs.WeakKernels.{kept_by, kept_of, factor_row}
 use Rattle.cap_solve.specs.Sizes.{IsSizeInTest, IsSizeInRows, IsSizeAtRow}
-use Rattle.cap_solve.proofs.Faults.{fault_of, either_fits}
+use Rattle.cap_solve.proofs.Faults.{err-is, fault_of, either_fits}
 use Rattle.cap_solve.proofs.Kept.{sum_meets, sum_data, kept_by-arrow, kept-next, part-fits, part-back, part-met, part-meets, row-arrow, test-moved, kept-same, below-next}
 use Rattle.cap_solve.proofs.Places.{take_all}
 use Rattle.cap_solve.proofs.weak_kernels.keep_rows.Goals as goal
@@ -147,7 +147,7 @@ returns-in_err-g g c =
     let a' = c.source-in-loop-i.result.now in
     let part = take (i * n + n - i * n) (drop (i * n) cells) in
     let e = c.in_err-g.field-0.0 in
-    let is : c.from_residual.result ≡ Err e = search rules in
+    let is = err-is c.from_residual.result e c.from_residual.ensures.1 in
     let met = IsSizeInRows V W C H Z x a c.args.k rows.entries in
     let right = λ (m : _). (m ≡ kept_of C H Z c.args.k (map (λ r. H.back x a r) rows.entries)) × Arrow C (C.source m) a m in
     subst (λ r. Answers met right r) (sym is)
@@ -178,7 +178,7 @@ returns-in_err-kept g c =
     let inner : i < length rows.entries = omega (arith, lt, c.requires.rows.is.shaped.row_many) in
     let made = c.in_ok-g.ensures.0 ∙ part-back L S c.requires.unit c.requires.test rows cells i n c.cells-cells.ensures lt c.requires.rows c.cols-n.ensures.value c.source.result.now c.source-in-loop-i.result.now c.source.ensures c.source-in-loop-i.ensures in
     let e = c.in_err-kept.field-0.0 in
-    let is : c.from_residual-in_err-kept.result ≡ Err e = search rules in
+    let is = err-is c.from_residual-in_err-kept.result e c.from_residual-in_err-kept.ensures.1 in
     let met = IsSizeInRows V W C H Z x a c.args.k rows.entries in
     let right = λ (m : _). (m ≡ kept_of C H Z c.args.k (map (λ r. H.back x a r) rows.entries)) × Arrow C (C.source m) a m in
     subst (λ r. Answers met right r) (sym is)

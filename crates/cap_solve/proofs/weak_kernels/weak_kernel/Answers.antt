@@ -1,9 +1,9 @@
-use Rattle.std.proofs.Common.{◌≡◌, ◌⊎◌, ◌<◌, ◌+◌, ℕ, inl, inr, Result, Err, refl, sym, ap, ◌∙◌, subst, arith, rules}
+use Rattle.std.proofs.Common.{◌≡◌, ◌⊎◌, ◌<◌, ◌+◌, ℕ, inl, inr, Result, Err, refl, sym, ap, ◌∙◌, subst, arith}
 use Rattle.cap_laws.specs.Linear.{Arrow}
 use Rattle.cap_laws.specs.Answers.{Answers, Size, Fits}
 use Rattle.cap_solve_laws.proofs.WeakKernels.{kept_of, first_morphisms, null_morphisms, weak_kernel_of}
 use Rattle.cap_solve.specs.Sizes.{IsSizeAtGenerator, IsSizeInGenerators, IsSizeInWeakKernel}
-use Rattle.cap_solve.proofs.Faults.{fault_of, either_fits}
+use Rattle.cap_solve.proofs.Faults.{err-is, fault_of, either_fits}
 use Rattle.cap_solve.proofs.Kept.{sum_meets, sum_data, below-next, generators-next}
 use Rattle.cap_solve.proofs.weak_kernels.weak_kernel.Goals as goal
 
@@ -90,7 +90,7 @@ returns-in_err-zero_object g c =
     let Z = sum_data (g.C.Additive.zero_object_of q) (g.C.Additive.sum_of q) in
     let f = c.args.f.now in
     let e = c.in_err-zero_object.field-0.0 in
-    let is : c.from_residual.result ≡ Err e = search rules in
+    let is = err-is c.from_residual.result e c.from_residual.ensures.1 in
     let right = λ (x : _). x ≡ weak_kernel_of C H Z f in
     subst (λ r. Answers (IsSizeInWeakKernel V W C H Z f) right r) (sym is)
     (fault_of (IsSizeInWeakKernel V W C H Z f) V.zero_object right (λ x. x ≡ Z.zero_object) e (λ s m. inl (inl m)) c.in_err-zero_object.ensures)
@@ -107,7 +107,7 @@ returns-in_err-kept g c =
     let z' = c.in_ok-zero_object.zero_object in
     let a' = c.source.result.now in
     let e = c.in_err-kept.field-0.0 in
-    let is : c.from_residual-in_err-kept.result ≡ Err e = search rules in
+    let is = err-is c.from_residual-in_err-kept.result e c.from_residual-in_err-kept.ensures.1 in
     let right = λ (x : _). x ≡ weak_kernel_of C H Z f in
     subst (λ r. Answers (IsSizeInWeakKernel V W C H Z f) right r) (sym is)
     (fault_of (IsSizeInWeakKernel V W C H Z f) (V.zero z' a') right (λ x. x ≡ C.zero z' a') e
@@ -127,7 +127,7 @@ returns-in_err-kept-2 g c =
     let kept = c.loop-number.kept in
     let lt : n < H.generators = omega (arith, c.loop-number-test.true, c.generators-number-end.ensures) in
     let e = c.in_err-kept-2.field-0.0 in
-    let is : c.from_residual-in_err-kept-2.result ≡ Err e = search rules in
+    let is = err-is c.from_residual-in_err-kept-2.result e c.from_residual-in_err-kept-2.ensures.1 in
     let right = λ (x : _). x ≡ weak_kernel_of C H Z f in
     subst (λ r. Answers (IsSizeInWeakKernel V W C H Z f) right r) (sym is)
     (fault_of (IsSizeInWeakKernel V W C H Z f) (IsSizeAtGenerator V W C H Z f n kept) right (λ m. (m ≡ kept_of C H Z kept (null_morphisms C H f n)) × Arrow C (C.source m) a m) e
