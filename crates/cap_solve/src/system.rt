@@ -43,7 +43,8 @@ pub fn solve<C: HomFp>(
 {
     let (matrix, values) = row_equation(alloc, c, s)?;
     let row = values.as_slice();
-    match cap_reduce::solve(alloc, &matrix, row)? {
+    let solved = cap_reduce::solve(alloc, &matrix, row)?;
+    match solved {
         Solved::Row(x) => {
             let unknowns = s.unknowns.as_slice();
             let solution = x.as_slice();

@@ -114,11 +114,13 @@ returns g c =
     let whole = ap (λ m. take m es) all ∙ take_all es in
     let end : c.loop-equation.start ≡ values_width C H es = h.start ∙ ap (λ l. values_width C H l) whole in (
       record {
-          matrix = record { each = λ a j lt below.
+        matrix = record {
+          each = λ a j lt below.
               let narrow : j < w = omega (arith, below, c.requires.width) in
-              ap (λ m. cell cells m a j) (sym c.requires.width) ∙ h.inside a j lt (omega (arith, below, end)) };
-          values = c.new.ensures ∙ h.values ∙ ap (λ l. values_row H l) whole;
-        },
+              ap (λ m. cell cells m a j) (sym c.requires.width) ∙ h.inside a j lt (omega (arith, below, end));
+        };
+        values = c.new.ensures ∙ h.values ∙ ap (λ l. values_row H l) whole;
+      },
       each_fits es (λ x z. OneMeets x.terms (λ t. W.h t.left t.right z) ⊎ W.nu x.value z) (fit_all es (λ _ x z. OneMeets x.terms (λ t. W.h t.left t.right z) ⊎ W.nu x.value z) i (omega (arith, all)) h.sizes),
     )
 

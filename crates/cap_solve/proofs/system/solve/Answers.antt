@@ -1,6 +1,8 @@
 use Rattle.std.proofs.Common.{◌≡◌, ◌⊎◌, ◌<◌, ℕ, inl, inr, List, length, get_or, Result, Err, refl, sym, ap, ◌∙◌, subst, arith}
 use Rattle.cap_matrix.specs.Grid.{Grid}
 use Rattle.cap_matrix.specs.Reduced.{IsSolution, IsObstruction}
+use Rattle.cap_reduce.specs.Answers.{IsSolved}
+use Rattle.cap_reduce.specs.declared.solving.Solved.{Solved}
 use Rattle.cap_laws.specs.Answers.{Answers, Size, Fits, numbers}
 use Rattle.cap_homlaw.specs.Rows.{AreResidues}
 use Rattle.cap_solve_laws.specs.Systems.{unknowns_width, values_width, system_matrix, values_row, morphisms_of}
@@ -52,7 +54,8 @@ morphisms-requires-clause-row g c =
     let pair = c.in_ok-matrix.ensures.0 in
     let row = c.as_slice-row.ensures ∙ ap (λ (x : Grid × List ℕ). x.1) pair in
     let x = c.in-Row.x in
-    let r = subst (λ (l : List ℕ). IsSolution (system_matrix C H s.unknowns s.equations) l x) row (subst (λ (m : Grid). IsSolution m c.as_slice-row.result.now x) (ap (λ (y : Grid × List ℕ). y.0) pair) c.in-Row.ensures) in
+    let solved = subst (λ (z : Solved). IsSolved c.in_ok-matrix.matrix c.as_slice-row.result.now z) c.in-Row.is c.in_ok-solved.ensures in
+    let r = subst (λ (l : List ℕ). IsSolution (system_matrix C H s.unknowns s.equations) l x) row (subst (λ (m : Grid). IsSolution m c.as_slice-row.result.now x) (ap (λ (y : Grid × List ℕ). y.0) pair) solved) in
     let R = row-unknowns (g.met.C.Cat.linear q) (g.met.C.HomFp.is_hom q) s c.requires x r in
     subst (λ us. AreResidues C.prime (unknowns_width H us) c.as_slice-solution.result.now) (sym c.as_slice-unknowns.ensures) (subst (λ (l : List ℕ). AreResidues C.prime (unknowns_width H s.unknowns) l) (sym c.as_slice-solution.ensures) R)
 
@@ -69,8 +72,8 @@ returns-in_err-matrix g c =
     subst (λ r. Answers (IsSizeInSystem W C H s) (IsAnswered C H s) r) (sym is)
     (fault_of (IsSizeInSystem W C H s) part (IsAnswered C H s) (λ (x : Grid × List ℕ). x ≡ (system_matrix C H s.unknowns s.equations, values_row H s.equations)) e (λ z m. inl m) c.in_err-matrix.ensures)
 
-pub returns-in_err-xs : goal.returns-in_err-xs
-returns-in_err-xs g c =
+pub returns-in_err-xs-in-Row : goal.returns-in_err-xs-in-Row
+returns-in_err-xs-in-Row g c =
     let q = c.args.c.now in
     let C = g.C.Cat.category q in
     let H = g.C.HomFp.hom q in
@@ -81,14 +84,15 @@ returns-in_err-xs g c =
     let pair = c.in_ok-matrix.ensures.0 in
     let row = c.as_slice-row.ensures ∙ ap (λ (x : Grid × List ℕ). x.1) pair in
     let x = c.in-Row.x in
-    let r = subst (λ (l : List ℕ). IsSolution (system_matrix C H s.unknowns s.equations) l x) row (subst (λ (m : Grid). IsSolution m c.as_slice-row.result.now x) (ap (λ (y : Grid × List ℕ). y.0) pair) c.in-Row.ensures) in
+    let solved = subst (λ (z : Solved). IsSolved c.in_ok-matrix.matrix c.as_slice-row.result.now z) c.in-Row.is c.in_ok-solved.ensures in
+    let r = subst (λ (l : List ℕ). IsSolution (system_matrix C H s.unknowns s.equations) l x) row (subst (λ (m : Grid). IsSolution m c.as_slice-row.result.now x) (ap (λ (y : Grid × List ℕ). y.0) pair) solved) in
     let us = c.as_slice-unknowns.result.now in
     let y = c.as_slice-solution.result.now in
-    let e = c.in_err-xs.field-0.0 in
-    let is = err-is c.from_residual-in_err-xs.result e c.from_residual-in_err-xs.ensures.1 in
+    let e = c.in_err-xs-in-Row.field-0.0 in
+    let is = err-is c.from_residual-in_err-xs-in-Row.result e c.from_residual-in_err-xs-in-Row.ensures.1 in
     subst (λ r. Answers (IsSizeInSystem W C H s) (IsAnswered C H s) r) (sym is)
     (fault_of (IsSizeInSystem W C H s) (IsSizeInMorphisms W H us y) (IsAnswered C H s) (λ xs. xs ≡ morphisms_of H us y) e
-    (λ z m. inr (answer-met L S s c.requires W x r z (subst (λ l. IsSizeInMorphisms W H l x z) c.as_slice-unknowns.ensures (subst (λ (l : List ℕ). IsSizeInMorphisms W H us l z) c.as_slice-solution.ensures m)))) c.in_err-xs.ensures)
+    (λ z m. inr (answer-met L S s c.requires W x r z (subst (λ l. IsSizeInMorphisms W H l x z) c.as_slice-unknowns.ensures (subst (λ (l : List ℕ). IsSizeInMorphisms W H us l z) c.as_slice-solution.ensures m)))) c.in_err-xs-in-Row.ensures)
 
 pub returns-in-Row : goal.returns-in-Row
 returns-in-Row g c =
@@ -104,7 +108,8 @@ returns-in-Row g c =
     let pair = c.in_ok-matrix.ensures.0 in
     let row = c.as_slice-row.ensures ∙ ap (λ (x : Grid × List ℕ). x.1) pair in
     let x = c.in-Row.x in
-    let r = subst (λ (l : List ℕ). IsSolution M l x) row (subst (λ (m : Grid). IsSolution m c.as_slice-row.result.now x) (ap (λ (y : Grid × List ℕ). y.0) pair) c.in-Row.ensures) in
+    let solved = subst (λ (z : Solved). IsSolved c.in_ok-matrix.matrix c.as_slice-row.result.now z) c.in-Row.is c.in_ok-solved.ensures in
+    let r = subst (λ (l : List ℕ). IsSolution M l x) row (subst (λ (m : Grid). IsSolution m c.as_slice-row.result.now x) (ap (λ (y : Grid × List ℕ). y.0) pair) solved) in
     let us = c.as_slice-unknowns.result.now in
     let eu = c.as_slice-unknowns.ensures in
     let ey = c.as_slice-solution.ensures in
@@ -114,8 +119,8 @@ returns-in-Row g c =
           (λ z m. c.in_ok-xs.ensures.1 z (subst (λ (l : List ℕ). IsSizeInMorphisms W H us l z) (sym ey) (subst (λ l. IsSizeInMorphisms W H l x z) (sym eu) (answer-meets L S s c.requires W x r z m)))),
     )
 
-pub returns-in-Obstruction : goal.returns-in-Obstruction
-returns-in-Obstruction g c =
+pub returns : goal.returns
+returns g c =
     let q = c.args.c.now in
     let C = g.C.Cat.category q in
     let H = g.C.HomFp.hom q in
@@ -126,7 +131,8 @@ returns-in-Obstruction g c =
     let pair = c.in_ok-matrix.ensures.0 in
     let row = c.as_slice-row.ensures ∙ ap (λ (x : Grid × List ℕ). x.1) pair in
     let y = c.in-Obstruction.y in
-    let o = subst (λ (l : List ℕ). IsObstruction M l y) row (subst (λ (m : Grid). IsObstruction m c.as_slice-row.result.now y) (ap (λ (x : Grid × List ℕ). x.0) pair) c.in-Obstruction.ensures) in (
+    let solved = subst (λ (z : Solved). IsSolved c.in_ok-matrix.matrix c.as_slice-row.result.now z) c.in-Obstruction.is c.in_ok-solved.ensures in
+    let o = subst (λ (l : List ℕ). IsObstruction M l y) row (subst (λ (m : Grid). IsObstruction m c.as_slice-row.result.now y) (ap (λ (x : Grid × List ℕ). x.0) pair) solved) in (
       o,
       either_fits (λ z. (z ≡ numbers (unknowns_width H s.unknowns) (values_width C H s.equations)) ⊎ IsSizeInEquations W s.equations z) (IsSizeInAnswer W H s.unknowns (solution_row C.prime M v)) c.in_ok-matrix.ensures.1
           (none-meets (g.met.C.Cat.linear q) (g.met.C.HomFp.is_hom q) s c.requires W y o),
