@@ -11,6 +11,3 @@ mod weak_kernels;
 
 pub use solved::Solved;
 pub use system::{Answer, solve};
-
-#[cfg(test)]
-mod tests;

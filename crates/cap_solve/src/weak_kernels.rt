@@ -131,7 +131,8 @@ fn null_rows_at<C: HomFp>(
     }
 }
 
-/// k with the morphisms of the rows into f's source put below it, in order, that don't factor through what stands there; `unit` is the identity of their source.
+/// k with the morphisms of the rows into f's source put below it, in order, that don't factor through what stands there.
+/// `unit` is the identity of their source.
 fn keep_rows<C: HomFp + Additive>(
     alloc: Global,
     c: &C,

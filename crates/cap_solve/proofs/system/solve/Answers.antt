@@ -113,10 +113,10 @@ returns-in-Row g c =
     let us = c.as_slice-unknowns.result.now in
     let eu = c.as_slice-unknowns.ensures in
     let ey = c.as_slice-solution.ensures in
-    let made = c.in_ok-xs.ensures.0 ∙ ap (λ l. morphisms_of H l c.as_slice-solution.result.now) eu ∙ ap (λ (l : List ℕ). morphisms_of H s.unknowns l) ey in (
-      solved-is L S s c.requires x c.in_ok-xs.xs r made,
+    let made = c.in_ok-xs-in-Row.ensures.0 ∙ ap (λ l. morphisms_of H l c.as_slice-solution.result.now) eu ∙ ap (λ (l : List ℕ). morphisms_of H s.unknowns l) ey in (
+      solved-is L S s c.requires x c.in_ok-xs-in-Row.xs r made,
       either_fits (λ z. (z ≡ numbers (unknowns_width H s.unknowns) (values_width C H s.equations)) ⊎ IsSizeInEquations W s.equations z) (IsSizeInAnswer W H s.unknowns (solution_row C.prime M v)) c.in_ok-matrix.ensures.1
-          (λ z m. c.in_ok-xs.ensures.1 z (subst (λ (l : List ℕ). IsSizeInMorphisms W H us l z) (sym ey) (subst (λ l. IsSizeInMorphisms W H l x z) (sym eu) (answer-meets L S s c.requires W x r z m)))),
+          (λ z m. c.in_ok-xs-in-Row.ensures.1 z (subst (λ (l : List ℕ). IsSizeInMorphisms W H us l z) (sym ey) (subst (λ l. IsSizeInMorphisms W H l x z) (sym eu) (answer-meets L S s c.requires W x r z m)))),
     )
 
 pub returns : goal.returns
