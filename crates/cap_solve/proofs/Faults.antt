@@ -1,5 +1,5 @@
 -- Answers of calls after others, and sizes within the limits.
-use Rattle.std.proofs.Common.{◌≡◌, ◌⊎◌, ℕ, ◌+◌, ◌-◌, ◌*◌, ◌^◌, ◌<◌, ◌≤◌, min, true, false, inl, inr, List, length, Result, Ok, Err, refl, sym, ap, subst, rules, arith}
+use Rattle.std.proofs.Common.{◌≡◌, ◌⊎◌, ℕ, ◌+◌, ◌-◌, ◌^◌, ◌<◌, ◌≤◌, min, true, false, inl, inr, List, length, Result, Ok, Err, refl, sym, ap, subst, rules, arith}
 use Rattle.std.specs.Result.{IsErrAnd}
 use Rattle.cap_matrix.specs.Grid.{Grid, IsMatrix, fits_limits}
 use Rattle.cap_matrix.specs.Reduced.{IsNullBasis}

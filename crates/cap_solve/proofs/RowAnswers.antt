@@ -1,5 +1,5 @@
 -- The answer of a system from that of its row equation.
-use Rattle.std.proofs.Common.{◌≡◌, ℕ, ◌<◌, List, get_or, Option, sym, ap, ◌∙◌, subst, arith}
+use Rattle.std.proofs.Common.{◌≡◌, ℕ, ◌<◌, List, get_or, sym, ap, ◌∙◌, subst, arith}
 use Rattle.std.specs.Prelude.{Some, None}
 use Rattle.cap_matrix.specs.Reduced.{IsSolution, IsObstruction}
 use Rattle.cap_reduce.proofs.Decided.{obstruction_refutes}

@@ -1,4 +1,4 @@
-use Rattle.std.proofs.Common.{◌≡◌, ℕ, ◌+◌, ◌-◌, ◌*◌, ◌%◌, ◌<◌, get_or, take, drop, sym, ap, ◌∙◌, subst, arith}
+use Rattle.std.proofs.Common.{ℕ, ◌+◌, ◌-◌, ◌*◌, ◌%◌, ◌<◌, get_or, take, drop, sym, ap, ◌∙◌, subst, arith}
 use Rattle.cap_matrix.specs.Grid.{entry}
 use Rattle.cap_solve.specs.Blocks.{IsAdded}
 use Rattle.cap_solve.proofs.Additions.{block_row, line_part, line_length, line_small}

@@ -1,4 +1,4 @@
-use Rattle.std.proofs.Common.{◌≡◌, ◌⊎◌, ◌-◌, ◌*◌, ◌^◌, ◌<◌, ℕ, min, inl, inr, List, length, get_or, Result, Err, refl, sym, ap, ◌∙◌, subst, arith, rules}
+use Rattle.std.proofs.Common.{◌≡◌, ◌⊎◌, ◌-◌, ◌*◌, ◌^◌, ◌<◌, ℕ, min, inl, inr, List, length, get_or, refl, sym, ap, ◌∙◌, subst, arith, rules}
 use Rattle.std.proofs.lemmas.List.{with_items_is}
 use Rattle.cap_matrix.specs.Grid.{Grid}
 use Rattle.cap_matrix.specs.Buffer.{matrix_of}
@@ -6,7 +6,6 @@ use Rattle.cap_matrix.proofs.Filled.{fits_parts}
 use Rattle.cap_laws.specs.Answers.{Answers, Size, Fits, numbers}
 use Rattle.cap_solve_laws.specs.Systems.{unknowns_width, values_width, system_matrix, values_row}
 use Rattle.cap_solve_laws.proofs.Equations.{AreEquations, system-matrix}
-use Rattle.cap_solve.specs.Blocks.{IsHeld}
 use Rattle.cap_solve.specs.Parts.{AreEnds, AreValues, IsWritten}
 use Rattle.cap_solve.specs.Sizes.{IsSizeInEquations}
 use Rattle.cap_solve.proofs.Faults.{err-is, fault_of, either_fits, size_fits}

@@ -1,7 +1,7 @@
-use Rattle.std.proofs.Common.{◌≡◌, ◌⊎◌, ◌+◌, ◌*◌, ◌<◌, ◌≤◌, ℕ, inl, inr, List, ◌++◌, length, get_or, take, Result, Err, refl, sym, ap, ◌∙◌, subst, arith, rules}
+use Rattle.std.proofs.Common.{◌≡◌, ◌⊎◌, ◌+◌, ◌*◌, ◌<◌, ◌≤◌, ℕ, inl, inr, List, ◌++◌, length, take, refl, sym, ap, ◌∙◌, subst, arith, rules}
 use Rattle.cap_matrix.specs.Grid.{entry}
 use Rattle.cap_reduce.specs.Flat.{cell}
-use Rattle.cap_laws.specs.Answers.{Answers, Size, Fits}
+use Rattle.cap_laws.specs.Answers.{Answers}
 use Rattle.cap_homlaw.proofs.Images.{prime-positive}
 use Rattle.cap_solve_laws.specs.Systems.{unknowns_width, values_width, system_matrix, equation_columns, values_row}
 use Rattle.cap_solve.specs.Blocks.{IsBlockAdded}

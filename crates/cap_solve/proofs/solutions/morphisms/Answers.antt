@@ -1,6 +1,5 @@
-use Rattle.std.proofs.Common.{◌≡◌, ◌+◌, ◌-◌, ◌∷◌, [], ◌++◌, ◌^◌, ◌<◌, ◌≤◌, min, length, take, drop, List, ℕ, Result, Err, refl, sym, ap, ◌∙◌, subst, arith, rules}
-use Rattle.cap_laws.specs.declared.faults.CatFault.{CatFault}
-use Rattle.cap_laws.specs.Answers.{Answers, Size, Fits}
+use Rattle.std.proofs.Common.{◌≡◌, ◌+◌, ◌-◌, ◌∷◌, [], ◌++◌, ◌≤◌, length, take, drop, List, refl, sym, ap, ◌∙◌, subst, arith, rules}
+use Rattle.cap_laws.specs.Answers.{Answers}
 use Rattle.cap_laws.proofs.Systems.{nth-below}
 use Rattle.cap_homlaw.specs.Rows.{AreResidues}
 use Rattle.cap_solve_laws.specs.Systems.{unknowns_width, morphisms_of}

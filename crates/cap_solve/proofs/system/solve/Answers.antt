@@ -1,9 +1,9 @@
-use Rattle.std.proofs.Common.{◌≡◌, ◌⊎◌, ◌<◌, ℕ, inl, inr, List, length, get_or, Result, Err, refl, sym, ap, ◌∙◌, subst, arith}
+use Rattle.std.proofs.Common.{◌≡◌, ◌⊎◌, ◌<◌, ℕ, inl, inr, List, length, get_or, refl, sym, ap, ◌∙◌, subst, arith}
 use Rattle.cap_matrix.specs.Grid.{Grid}
 use Rattle.cap_matrix.specs.Reduced.{IsSolution, IsObstruction}
 use Rattle.cap_reduce.specs.Answers.{IsSolved}
 use Rattle.cap_reduce.specs.declared.solving.Solved.{Solved}
-use Rattle.cap_laws.specs.Answers.{Answers, Size, Fits, numbers}
+use Rattle.cap_laws.specs.Answers.{Answers, Size, numbers}
 use Rattle.cap_homlaw.specs.Rows.{AreResidues}
 use Rattle.cap_solve_laws.specs.Systems.{unknowns_width, values_width, system_matrix, values_row, morphisms_of}
 use Rattle.cap_solve_laws.proofs.Solver.{solution_row}

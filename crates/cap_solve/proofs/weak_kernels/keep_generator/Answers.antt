@@ -1,8 +1,8 @@
-use Rattle.std.proofs.Common.{◌≡◌, ◌⊎◌, ◌<◌, ℕ, inl, inr, List, map, Result, Err, refl, sym, ap, ◌∙◌, subst}
+use Rattle.std.proofs.Common.{◌≡◌, ◌⊎◌, inl, inr, map, refl, sym, ap, ◌∙◌, subst}
 use Rattle.cap_matrix.specs.Grid.{Grid, IsMatrixOf}
 use Rattle.cap_reduce.proofs.NullBasis.{basis-matrix}
 use Rattle.cap_laws.specs.Linear.{Arrow}
-use Rattle.cap_laws.specs.Answers.{Answers, Size, Fits, numbers}
+use Rattle.cap_laws.specs.Answers.{Answers, Size, numbers}
 use Rattle.cap_laws.proofs.Sizes.{answers-after}
 use Rattle.cap_homlaw.specs.Hom.{hom_matrix}
 use Rattle.cap_homlaw.proofs.TwoSided.{hom_matrix-matrix}

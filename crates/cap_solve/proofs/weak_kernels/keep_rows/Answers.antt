@@ -1,12 +1,10 @@
-use Rattle.std.proofs.Common.{◌≡◌, ◌+◌, ◌-◌, ◌*◌, ◌<◌, ◌≤◌, ℕ, inl, inr, List, map, length, take, drop, get_or, Result, Err, [], refl, sym, ap, ◌∙◌, subst, arith, ⊎_elim}
-use Rattle.cap_matrix.specs.Grid.{Grid}
+use Rattle.std.proofs.Common.{◌≡◌, ◌+◌, ◌-◌, ◌*◌, ◌<◌, ℕ, inl, inr, List, map, length, take, drop, get_or, [], refl, sym, ap, ◌∙◌, subst, arith}
 use Rattle.cap_laws.specs.Linear.{Arrow}
 use Rattle.cap_laws.specs.Answers.{Answers, Size, Fits}
-use Rattle.cap_laws.specs.declared.faults.CatFault.{CatFault}
 use Rattle.cap_homlaw.specs.Hom.{hom_matrix}
 use Rattle.cap_solve_laws.specs.Sums.{HasSums}
 use Rattle.cap_solve_laws.proofs.Solver.{solution_row}
-use Rattle.cap_solve_laws.proofs.WeakKernels.{kept_by, kept_of, factor_row}
+use Rattle.cap_solve_laws.proofs.WeakKernels.{kept_by, kept_of}
 use Rattle.cap_solve.specs.Sizes.{IsSizeInTest, IsSizeInRows, IsSizeAtRow}
 use Rattle.cap_solve.proofs.Faults.{err-is, fault_of, either_fits}
 use Rattle.cap_solve.proofs.Kept.{sum_meets, sum_data, kept_by-arrow, kept-next, part-fits, part-back, part-met, part-meets, row-arrow, test-moved, kept-same, below-next}

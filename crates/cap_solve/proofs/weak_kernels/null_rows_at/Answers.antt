@@ -1,10 +1,9 @@
-use Rattle.std.proofs.Common.{◌≡◌, ◌⊎◌, ◌∙◌, ℕ, true, inr, Result, Err, refl, sym, ap, subst, rules}
-use Rattle.cap_matrix.specs.Grid.{Grid, fits_limits}
+use Rattle.std.proofs.Common.{◌≡◌, ◌⊎◌, inr, Err, refl, sym, subst}
+use Rattle.cap_matrix.specs.Grid.{Grid}
 use Rattle.cap_matrix.specs.Reduced.{IsNullBasis}
 use Rattle.cap_matrix.specs.declared.MatrixFault.{MatrixFault}
 use Rattle.cap_reduce.specs.Answers.{IsLargeNullBasis, IsNullRows}
 use Rattle.cap_laws.specs.declared.faults.CatFault.{CatFault}
-use Rattle.cap_laws.specs.declared.faults.CatFault.TheVariants.{TooLarge as too_large}
 use Rattle.cap_laws.specs.Answers.{Size, Fits, Answers, Names, numbers}
 use Rattle.cap_homlaw.specs.Hom.{hom_matrix}
 use Rattle.cap_homlaw.proofs.TwoSided.{hom_matrix-matrix}

@@ -1,4 +1,4 @@
-use Rattle.std.proofs.Common.{◌≡◌, ◌⊎◌, ◌<◌, ◌+◌, ℕ, inl, inr, Result, Err, refl, sym, ap, ◌∙◌, subst, arith}
+use Rattle.std.proofs.Common.{◌≡◌, ◌⊎◌, ◌<◌, inl, inr, refl, sym, ap, ◌∙◌, subst, arith}
 use Rattle.cap_laws.specs.Linear.{Arrow}
 use Rattle.cap_laws.specs.Answers.{Answers, Size, Fits}
 use Rattle.cap_solve_laws.proofs.WeakKernels.{kept_of, first_morphisms, null_morphisms, weak_kernel_of}
