@@ -1,0 +1,5 @@
+pub mod Sizes
+pub mod Answered
+pub mod Factors
+pub mod Blocks
+pub mod Parts
