@@ -1,4 +1,4 @@
--- The Freyd category of a linear category (Freyd; Posur, "A constructive approach to Freyd categories").
+-- The Freyd category of a linear category, in the constructive form of Posur.
 use Rattle.cap_laws.specs.Linear.{CategoryData, Arrow}
 use Rattle.cap_laws.specs.Factor.{Through}
 use Rattle.cap_laws.specs.Universal.{subtract}
