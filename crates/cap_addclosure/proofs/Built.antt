@@ -1,0 +1,62 @@
+-- Matrices that are built entry after entry.
+use Rattle.std.proofs.Common.{◌≡◌, ℕ, ◌+◌, ◌*◌, ◌/◌, ◌%◌, ◌<◌, ◌≤◌, List, [], ◌∷◌, ◌++◌, map, length, get_or, take, append_assoc, replicate, refl, sym, ap, ◌∙◌, subst, arith}
+use Rattle.std.specs.List.{range_with_len}
+use Rattle.std.proofs.lemmas.List.{take_more}
+use Rattle.std.proofs.lemmas.List.{append-nil, ext_get_or, length-replicate, get_or-replicate}
+use Rattle.std.proofs.lemmas.List.FromFn.{length-map-range_with_len, get_or-map-range_with_len, map-range_with_len_more}
+use Rattle.std.proofs.Math.Nat.{zero-add}
+use Rattle.std.specs.Prelude.{Result, Ok, Err, IfOk, IfErr}
+use Rattle.cap_laws.specs.declared.faults.CatFault.{CatFault}
+use Rattle.cap_laws.specs.declared.faults.CatFault.TheVariants.{NoMemory}
+use Rattle.cap_laws.specs.Answers.{Answers, Size, Fits}
+use Rattle.cap_laws.specs.Linear.{Arrow}
+use Rattle.cap_laws.specs.Table.{TableData, Combination, row_below}
+use Rattle.cap_add_laws.specs.Closure.{MorphismMatrix, IsMorphismMatrix, morphism_by, closure_data, joined}
+use Rattle.cap_add_laws.proofs.Joined.{joined-residues}
+use Rattle.cap_add_laws.proofs.Structure.{matrix-rows}
+use Rattle.cap_addclosure.specs.Sizes.{closure_size}
+
+pub zeros-row : (n : ℕ) → replicate n 0 ≡ row_below n (λ k. 0)
+zeros-row n = ext_get_or 0 (replicate n 0) (row_below n (λ k. 0)) (length-replicate {A = ℕ} n 0 ∙ sym (length-map-range_with_len (λ k. 0) 0 n))
+    (λ k lt. get_or-replicate n k 0 0 (omega (arith, lt, length-replicate {A = ℕ} n 0)) ∙ sym (get_or-map-range_with_len (λ k. 0) 0 n k k 0 (omega (arith, lt, length-replicate {A = ℕ} n 0)) (zero-add k)))
+
+-- the first k entries of a matrix by a formula, row by row
+abbrev pub first_entries : List ℕ → List ℕ → (ℕ → ℕ → Combination) → ℕ → List (List ℕ)
+first_entries a b F k = map (λ q. (F (q / length b) (q % length b)).coefficients) (range_with_len 0 k)
+
+pub entry-next : (a b : List ℕ) (F : ℕ → ℕ → Combination) (k : ℕ) (xs : List (List ℕ)) (x : List ℕ) → xs ≡ first_entries a b F k → x ≡ (F (k / length b) (k % length b)).coefficients → xs ++ x ∷ [] ≡ first_entries a b F (k + 1)
+entry-next a b F k xs x e d =
+    ap (λ z. z ++ x ∷ []) e ∙ ap (λ z. first_entries a b F k ++ z ∷ []) d ∙ sym (map-range_with_len_more (λ q. (F (q / length b) (q % length b)).coefficients) 0 k k (zero-add k))
+
+-- its coefficients are as many as its size says
+pub coefficients-few : {T : TableData} {a b : List ℕ} {f : MorphismMatrix} → Arrow (closure_data T) a b f → Fits (closure_size T a b) → length (joined f.entries) ≤ 1048576
+coefficients-few p h = omega (arith, (joined-residues (matrix-rows p)).long, h.cells)
+
+-- what a loop over all entries has built is the matrix
+pub all-entries : (a b : List ℕ) (F : ℕ → ℕ → Combination) (k : ℕ) (xs : List (List ℕ)) → xs ≡ first_entries a b F k → k ≡ length a * length b → xs ≡ (morphism_by a b F).entries
+all-entries a b F k xs e d = e ∙ ap (λ n. first_entries a b F n) d
+
+pub all-many : (a b : List ℕ) (F : ℕ → ℕ → Combination) (xs : List (List ℕ)) → xs ≡ (morphism_by a b F).entries → length xs ≡ length a * length b
+all-many a b F xs e = ap length e ∙ length-map-range_with_len (λ q. (F (q / length b) (q % length b)).coefficients) 0 (length a * length b)
+
+pub all-few : {T : TableData} (a b : List ℕ) (F : ℕ → ℕ → Combination) (xs : List (List ℕ)) → xs ≡ (morphism_by a b F).entries → Arrow (closure_data T) a b (morphism_by a b F) → Fits (closure_size T a b) → length (joined xs) ≤ 1048576
+all-few a b F xs e p h = omega (arith, ap (λ (z : List (List ℕ)). length (joined z)) e, coefficients-few p h)
+
+-- what can want memory alone, where the sizes keep the limits
+pub answers-built : {A : Type 0} (met : Size → Type 0) (v w : A) (r : Result A CatFault) → ((s : Size) → met s → Fits s) → IfOk r (λ x. x ≡ w) → IfErr r (λ e. e ≡ NoMemory) → w ≡ v → Answers met (λ x. x ≡ v) r
+answers-built met v w (Ok x) h e f d = (e ∙ d, h)
+answers-built met v w (Err e) h k f d = subst (λ q. Answers met (λ x. x ≡ v) (Err q)) (sym f) tt
+
+-- a matrix that keeps the limits, as a size
+pub held-fits : {T : TableData} (f : MorphismMatrix) → IsMorphismMatrix T f → length f.from ≤ 2048 → length f.to ≤ 2048 → length (joined f.entries) ≤ 1048576 → (s : Size) → s ≡ closure_size T f.from f.to → Fits s
+held-fits {T} f F rows columns cells s e =
+    let p : Arrow (closure_data T) f.from f.to f = record { is = F; from = refl; to = refl } in
+    subst (λ (z : Size). Fits z) (sym e) (record { rows = rows; columns = columns; cells = omega (arith, cells, (joined-residues (matrix-rows p)).long) })
+
+-- entries one after another
+joined-append : (xs ys : List (List ℕ)) → joined (xs ++ ys) ≡ joined xs ++ joined ys
+joined-append [] ys = refl
+joined-append (x ∷ xs) ys = ap (λ z. x ++ z) (joined-append xs ys) ∙ sym (append_assoc x (joined xs) (joined ys))
+
+pub joined-next : (xs : List (List ℕ)) (i : ℕ) (d : List ℕ) → i < length xs → joined (take (i + 1) xs) ≡ joined (take i xs) ++ get_or xs i d
+joined-next xs i d lt = ap joined (take_more xs i d lt) ∙ joined-append (take i xs) (get_or xs i d ∷ []) ∙ ap (λ z. joined (take i xs) ++ z) (append-nil (get_or xs i d))
