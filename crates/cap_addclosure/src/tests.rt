@@ -1,6 +1,6 @@
 // Worked examples over the table with two objects and one arrow a between them: its basis is the unit of 0, a, and the unit of 1.
 ghost use Rattle.std.specs.Prelude.{◌≡◌, ◌<◌, ◌≤◌, ℕ, [], IfOk, length, slice_index, slice_index_or};
-ghost use Rattle.cap_add_laws.specs.Closure.{AreObjects, IsMorphismMatrix};
+ghost use Rattle.cap_add_laws.specs.Closure.{AreObjects, IsMorphismMatrix, joined};
 
 use crate::{AddCat, AddMor, AddObj, Shape};
 use cap_field::Field;
@@ -66,8 +66,22 @@ fn entry(rt: &impl Abort, alloc: Global, prime: u32, cells: &[u16]) -> Items<u16
     Items::new(Vec::from_slice(alloc, cells).expect(rt, "room for the entry"))
 }
 
-/// The matrix with these entries.
-fn matrix(
+/// Entries with these coefficients.
+fn rows(rt: &impl Abort, alloc: Global, prime: u32, entries: &[&[u16]]) -> Vec<Items<u16>>
+    ensures few { length (joined result.items) ≤ 8192 }
+    ensures residues { (k c : ℕ) → k < length result.items → c < length (slice_index_or result.items k []) → slice_index (slice_index_or result.items k []) c < prime }
+{
+    assert!(rt; entries.len() <= 64);
+    let mut rows = Vec::new(alloc);
+    for k in 0..entries.len() {
+        rows.push(entry(rt, alloc, prime, entries[k]))
+            .expect(rt, "room for the entries");
+    }
+    rows
+}
+
+/// What is made of these entries.
+fn made(
     rt: &impl Abort,
     alloc: Global,
     category: &AddCat<LinTable>,
@@ -77,18 +91,46 @@ fn matrix(
 ) -> Result<AddMor, Shape>
     ensures { IfOk result (λ f. IsMorphismMatrix (⟦<LinTable as Table>⟧.table category.now.table) f) }
 {
-    let prime = category.table.field().prime();
-    assert!(rt; entries.len() <= 64);
-    let mut rows = Vec::new(alloc);
-    for k in 0..entries.len() {
-        rows.push(entry(rt, alloc, prime, entries[k]))
-            .expect(rt, "room for the entries");
-    }
+    let rows = rows(rt, alloc, category.table.field().prime(), entries);
     let (a, b) = (
         list(rt, alloc, category, from),
         list(rt, alloc, category, to),
     );
     category.morphism(a, b, rows)
+}
+
+/// The matrix with these entries.
+fn matrix(
+    rt: &impl Abort,
+    alloc: Global,
+    category: &AddCat<LinTable>,
+    from: &[u32],
+    to: &[u32],
+    entries: &[&[u16]],
+) -> AddMor
+    ensures { IsMorphismMatrix (⟦<LinTable as Table>⟧.table category.now.table) result }
+{
+    made(rt, alloc, category, from, to, entries).expect(rt, "entries of the right widths")
+}
+
+/// The matrix with these coefficients.
+fn matrix_of(
+    rt: &impl Abort,
+    alloc: Global,
+    category: &AddCat<LinTable>,
+    a: &AddObj,
+    b: &AddObj,
+    row: &[u16],
+) -> Result<AddMor, CatFault>
+    requires from { AreObjects (⟦<LinTable as Table>⟧.table category.now.table) a.now }
+    requires to { AreObjects (⟦<LinTable as Table>⟧.table category.now.table) b.now }
+{
+    let prime = category.table.field().prime();
+    assert!(rt; row.len() == category.dim(a, b) as usize);
+    for k in 0..row.len() {
+        assert!(rt; (row[k] as u32) < prime);
+    }
+    category.back(alloc, a, b, row)
 }
 
 /// Whether a matrix has these entries.
@@ -112,7 +154,7 @@ fn the_first_wrong_entry_is_told(rt: HostRuntime) -> Result<(), Fail> {
         (&[&[1], &[2], &[], &[]], Some(4)),
     ];
     for (entries, part) in cases {
-        let made = matrix(&rt, alloc, &category, &[0, 1], &[0, 1], entries);
+        let made = made(&rt, alloc, &category, &[0, 1], &[0, 1], entries);
         assert_eq!(rt; made.err().map(|e| e.part), part);
     }
     Ok(())
@@ -123,25 +165,21 @@ fn matrices_are_composed_added_and_scaled(rt: HostRuntime) -> Result<(), Fail> {
     let alloc = rt.alloc();
     let category = closure(alloc)?;
     // (2, 3a) from [0] to [0 1], and a above 4 from there to [1]
-    let f = matrix(&rt, alloc, &category, &[0], &[0, 1], &[&[2], &[3]])
-        .ok()
-        .ok_or("a matrix")?;
-    let g = matrix(&rt, alloc, &category, &[0, 1], &[1], &[&[1], &[4]])
-        .ok()
-        .ok_or("a matrix")?;
+    let f = matrix(&rt, alloc, &category, &[0], &[0, 1], &[&[2], &[3]]);
+    let g = matrix(&rt, alloc, &category, &[0, 1], &[1], &[&[1], &[4]]);
     assert!(rt; category.same_object(category.target(&f), category.source(&g)));
     let product = category.compose(alloc, &f, &g)?;
     assert!(rt; has(&product, 1, 1, &[&[4]]));
     let sum = category.add(alloc, &f, &f)?;
     assert!(rt; has(&sum, 1, 2, &[&[4], &[1]]));
+    assert!(rt; 3 < category.field().prime());
     let multiple = category.scale(alloc, 3, &g)?;
     assert!(rt; has(&multiple, 2, 1, &[&[3], &[2]]));
-    let zero = category.zero(alloc, category.source(&g), category.source(&f))?;
-    assert!(rt; has(&zero, 2, 1, &[&[0], &[]]));
     let copy = category.copy_morphism(alloc, &g)?;
-    assert!(rt; category.same_morphism(&copy, &g));
+    assert!(rt; has(&copy, 2, 1, &[&[1], &[4]]));
+    assert!(rt; category.congruent(alloc, &g, &g)?);
     assert!(rt; !category.same_morphism(&f, &g));
-    assert!(rt; category.congruent(alloc, &copy, &g)?);
+    assert!(rt; copy.source().parts().len() == 2 && copy.target().parts().len() == 1);
     assert!(rt; copy.entry(1, 0) == [4].as_slice());
     Ok(())
 }
@@ -154,13 +192,15 @@ fn units_stand_on_the_diagonal(rt: HostRuntime) -> Result<(), Fail> {
     let b = list(&rt, alloc, &category, &[1, 0]);
     let one = category.identity(alloc, &b)?;
     assert!(rt; has(&one, 2, 2, &[&[1], &[], &[0], &[1]]));
+    let zero = category.zero(alloc, &b, &a)?;
+    assert!(rt; has(&zero, 2, 1, &[&[], &[0]]));
     let sum = category.direct_sum(alloc, &a, &b)?;
     assert!(rt; has(&sum.i1, 1, 3, &[&[1], &[0], &[0]]));
     assert!(rt; has(&sum.i2, 2, 3, &[&[], &[1], &[], &[0], &[0], &[1]]));
     assert!(rt; has(&sum.p1, 3, 1, &[&[1], &[], &[0]]));
     assert!(rt; has(&sum.p2, 3, 2, &[&[0], &[0], &[1], &[], &[0], &[1]]));
-    let zero = category.zero_object(alloc)?;
-    assert!(rt; zero.parts().is_empty());
+    let empty = category.zero_object(alloc)?;
+    assert!(rt; empty.parts().is_empty());
     let copy = category.copy_object(alloc, &b)?;
     assert!(rt; copy.parts() == [1, 0].as_slice());
     Ok(())
@@ -194,17 +234,12 @@ fn coefficients_are_those_of_all_entries(rt: HostRuntime) -> Result<(), Fail> {
     let alloc = rt.alloc();
     let category = closure(alloc)?;
     let b = list(&rt, alloc, &category, &[0, 1]);
-    assert_eq!(rt; category.dim(&b, &b), 3);
-    let g = category.back(alloc, &b, &b, &[2, 3, 4])?;
+    let g = matrix_of(&rt, alloc, &category, &b, &b, &[2, 3, 4])?;
     assert!(rt; has(&g, 2, 2, &[&[2], &[3], &[], &[4]]));
-    let row = category.nu(alloc, &g)?;
-    assert!(rt; row.as_slice() == [2, 3, 4].as_slice());
-    let l = matrix(&rt, alloc, &category, &[0], &[0, 1], &[&[2], &[3]])
-        .ok()
-        .ok_or("a matrix")?;
-    let r = matrix(&rt, alloc, &category, &[0, 1], &[1], &[&[1], &[4]])
-        .ok()
-        .ok_or("a matrix")?;
+    let l = matrix(&rt, alloc, &category, &[0], &[0, 1], &[&[2], &[3]]);
+    let row = category.nu(alloc, &l)?;
+    assert!(rt; row.as_slice() == [2, 3].as_slice());
+    let r = matrix(&rt, alloc, &category, &[0, 1], &[1], &[&[1], &[4]]);
     let h = category.h(alloc, &l, &r)?;
     assert!(rt; h.cells() == [2, 3, 2].as_slice());
     assert_eq!(rt; category.generators(), 2);

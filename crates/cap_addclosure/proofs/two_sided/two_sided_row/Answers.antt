@@ -1,0 +1,59 @@
+use Rattle.std.proofs.Common.{◌≡◌, ℕ, ◌+◌, ◌*◌, ◌<◌, List, [], ◌++◌, map, length, get_or, sym, ap, ◌∙◌, subst, arith}
+use Rattle.std.specs.List.{range_with_len}
+use Rattle.std.proofs.Math.Nat.{zero-mul}
+use Rattle.cap_field.proofs.Fermat.{tabled_range}
+use Rattle.cap_laws.specs.Table.{Combination, IsRow, table_data, width_of, composed_of}
+use Rattle.cap_homlaw.specs.Rows.{AreResidues, unit_row}
+use Rattle.cap_homlaw.proofs.Rows.{unit-residues}
+use Rattle.cap_add_laws.specs.Closure.{MorphismMatrix, entry_of, joined}
+use Rattle.cap_addclosure.specs.TwoSided.{element_at}
+use Rattle.cap_addclosure.proofs.Built.{first_entries, rows-next, all-entries}
+use Rattle.cap_addclosure.proofs.TwoSidedRows.{two_sided_piece, element-row, left-row}
+use Rattle.cap_addclosure.proofs.two_sided.two_sided_row.Goals as goal
+
+pub combined-requires-clause-left : goal.combined-requires-clause-left
+combined-requires-clause-left g c =
+    let T = g.T.Table.table c.args.table.now in
+    let l = c.args.l.now in
+    let i = c.args.i in
+    let u = c.loop-u.u in
+    let x = c.parts-x.ensures.value ∙ c.source.ensures in
+    let a = c.parts-a.ensures.value ∙ c.target.ensures in
+    let hu : u < length l.from = subst (λ (z : List ℕ). u < length z) x c.loop-u-test.true in
+    subst (λ (z : List ℕ). IsRow T (get_or z u 0) (get_or c.parts-a.result.now i 0) c.entry-factor.result.now) (sym x)
+    (subst (λ (z : List ℕ). IsRow T (get_or l.from u 0) (get_or z i 0) c.entry-factor.result.now) (sym a)
+    (subst (λ (z : List ℕ). IsRow T (get_or l.from u 0) (get_or l.to i 0) z) (sym c.entry-factor.ensures) (c.requires.left.rows u i hu c.requires.row)))
+
+pub combined-requires-clause-right : goal.combined-requires-clause-right
+combined-requires-clause-right g c =
+    let T = g.T.Table.table c.args.table.now in
+    let V = g.met.T.Table.valid c.args.table.now in
+    let l = c.args.l.now in
+    let r = c.args.r.now in
+    let i = c.args.i in
+    let j = c.args.j in
+    let a = c.parts-a.ensures.value ∙ c.target.ensures in
+    let b = c.parts-b.ensures.value ∙ c.source-2.ensures in
+    let wide = c.width.ensures.value ∙ ap (λ (z : List ℕ). width_of T (get_or z i 0) (get_or c.parts-b.result.now j 0)) a ∙ ap (λ (z : List ℕ). width_of T (get_or l.to i 0) (get_or z j 0)) b in
+    subst (λ (z : List ℕ). IsRow T (get_or z i 0) (get_or c.parts-b.result.now j 0) c.deref.result.now) (sym a)
+    (subst (λ (z : List ℕ). IsRow T (get_or l.to i 0) (get_or z j 0) c.deref.result.now) (sym b)
+    (subst (λ (z : List ℕ). IsRow T (get_or l.to i 0) (get_or r.from j 0) z) (sym (c.deref.ensures.value ∙ c.in_ok-element.ensures ∙ ap (λ n. unit_row n c.args.t) wide))
+    (element-row V (get_or l.to i 0) (get_or r.from j 0) c.args.t)))
+
+pub row_of_products-requires-clause-combination : goal.row_of_products-requires-clause-combination
+row_of_products-requires-clause-combination g c = ?
+
+pub loop-u-init : goal.loop-u-init
+loop-u-init g c = ?
+
+pub loop-u-preserved : goal.loop-u-preserved
+loop-u-preserved g c = ?
+
+pub returns : goal.returns
+returns g c =
+    let T = g.T.Table.table c.args.table.now in
+    let l = c.args.l.now in
+    let r = c.args.r.now in
+    let F = two_sided_piece T l r c.args.i c.args.j c.args.t in
+    let done : c.loop-u.u ≡ length c.parts-x.result.now = omega (arith, c.loop-u-test.false, c.loop-u.auto.u-end) in
+    c.loop-u.invariant ∙ ap (λ n. joined (first_entries l.from r.to F (n * length r.to))) (done ∙ ap (λ (z : List ℕ). length z) (c.parts-x.ensures.value ∙ c.source.ensures))
