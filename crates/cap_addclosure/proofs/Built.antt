@@ -83,6 +83,9 @@ copies-built f a b xs (Ok x) h e ea eb ex =
     h ∙ ap (λ z. make z b xs) ea ∙ ap (λ z. make f.from z xs) eb ∙ ap (λ z. make f.from f.to z) ex
 copies-built f a b xs (Err v) h e ea eb ex = e
 
+pub joined-one : (xs : List (List ℕ)) (x : List ℕ) → joined (xs ++ x ∷ []) ≡ joined xs ++ x
+joined-one xs x = joined-append xs (x ∷ []) ∙ ap (λ z. joined xs ++ z) (append-nil x)
+
 pub joined-more : (f : ℕ → List ℕ) (k : ℕ) → joined (map f (range_with_len 0 (k + 1))) ≡ joined (map f (range_with_len 0 k)) ++ f k
 joined-more f k = ap joined (map-range_with_len_more f 0 k k (zero-add k)) ∙ joined-append (map f (range_with_len 0 k)) (f k ∷ []) ∙ ap (λ z. joined (map f (range_with_len 0 k)) ++ z) (append-nil (f k))
 

@@ -38,12 +38,6 @@ module _ {T : TableData} (V : IsTable T) where
   number_of a b i j t = sum_list (take (i * length b + j) (widths_of T a b)) + t
 
   module _ {a b : List ℕ} (A : AreObjects T a) (B : AreObjects T b) (i j t : ℕ) (hi : i < length a) (hj : j < length b) (ht : t < width_of T (get_or a i 0) (get_or b j 0)) where
-    e : MorphismMatrix
-    e = basis_of (closure_hom T) a b (number_of a b i j t)
-
-    place : ℕ
-    place = i * length b + j
-
     inside : i * length b + j < length (widths_of T a b)
     inside = omega (arith, mul-add-lt i (length b) j (length a) hi hj, widths-many T a b)
 

@@ -102,10 +102,11 @@ pub(crate) fn direct_sum<T: Table>(
     ensures { Answers (IsSizeInSum (T.table table.now) a.now b.now) (λ x. x ≡ closure_sum (T.table table.now) a.now b.now) result }
 {
     let (first, second) = (a.parts().len(), b.parts().len());
-    if first + second > MOST_SIDE as usize {
+    let count = first + second;
+    if count > MOST_SIDE as usize {
         return Err(CatFault::TooLarge {
             rows: first as u32,
-            cols: (first + second) as u32,
+            cols: count as u32,
         });
     }
     let s = both(alloc, a, b)?;

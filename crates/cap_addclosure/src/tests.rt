@@ -47,11 +47,12 @@ fn list(rt: &impl Abort, alloc: Global, category: &AddCat<LinTable>, parts: &[u3
     ensures { AreObjects (⟦<LinTable as Table>⟧.table category.now.table) result }
 {
     let count = category.table.objects();
-    assert!(rt; parts.len() <= 2048);
-    for k in 0..parts.len() {
-        assert!(rt; parts[k] < count);
+    let list = Vec::from_slice(alloc, parts).expect(rt, "room for the list");
+    assert!(rt; list.len() <= 2048);
+    for k in 0..list.len() {
+        assert!(rt; list[k] < count);
     }
-    category.object(Vec::from_slice(alloc, parts).expect(rt, "room for the list"))
+    category.object(list)
 }
 
 /// The entry with these coefficients.
@@ -59,25 +60,30 @@ fn entry(rt: &impl Abort, alloc: Global, prime: u32, cells: &[u16]) -> Items<u16
     ensures few { length result ≤ 128 }
     ensures residues { (k : ℕ) → k < length result → slice_index result k < prime }
 {
-    assert!(rt; cells.len() <= 128);
-    for k in 0..cells.len() {
-        assert!(rt; (cells[k] as u32) < prime);
+    let row = Vec::from_slice(alloc, cells).expect(rt, "room for the entry");
+    assert!(rt; row.len() <= 128);
+    for k in 0..row.len() {
+        assert!(rt; (row[k] as u32) < prime);
     }
-    Items::new(Vec::from_slice(alloc, cells).expect(rt, "room for the entry"))
+    Items::new(row)
 }
 
 /// Entries with these coefficients.
-fn rows(rt: &impl Abort, alloc: Global, prime: u32, entries: &[&[u16]]) -> Vec<Items<u16>>
-    ensures few { length (joined result.items) ≤ 8192 }
-    ensures residues { (k c : ℕ) → k < length result.items → c < length (slice_index_or result.items k []) → slice_index (slice_index_or result.items k []) c < prime }
+fn rows(
+    rt: &impl Abort,
+    alloc: Global,
+    prime: u32,
+    entries: &[&[u16]],
+) -> Result<Vec<Items<u16>>, AllocError>
+    ensures few { IfOk result (λ v. length (joined v.items) ≤ 8192) }
+    ensures residues { IfOk result (λ v. (k c : ℕ) → k < length v.items → c < length (slice_index_or v.items k []) → slice_index (slice_index_or v.items k []) c < prime) }
 {
     assert!(rt; entries.len() <= 64);
     let mut rows = Vec::new(alloc);
     for k in 0..entries.len() {
-        rows.push(entry(rt, alloc, prime, entries[k]))
-            .expect(rt, "room for the entries");
+        rows.push(entry(rt, alloc, prime, entries[k]))?;
     }
-    rows
+    Ok(rows)
 }
 
 /// What is made of these entries.
@@ -91,7 +97,8 @@ fn made(
 ) -> Result<AddMor, Shape>
     ensures { IfOk result (λ f. IsMorphismMatrix (⟦<LinTable as Table>⟧.table category.now.table) f) }
 {
-    let rows = rows(rt, alloc, category.table.field().prime(), entries);
+    let prime = category.table.field().prime();
+    let rows = rows(rt, alloc, prime, entries).expect(rt, "room for the entries");
     let (a, b) = (
         list(rt, alloc, category, from),
         list(rt, alloc, category, to),
@@ -126,7 +133,9 @@ fn matrix_of(
     requires to { AreObjects (⟦<LinTable as Table>⟧.table category.now.table) b.now }
 {
     let prime = category.table.field().prime();
-    assert!(rt; row.len() == category.dim(a, b) as usize);
+    let count = category.dim(a, b) as usize;
+    assert!(rt; row.len() == count);
+    assert!(rt; row.len() <= 128);
     for k in 0..row.len() {
         assert!(rt; (row[k] as u32) < prime);
     }

@@ -6,6 +6,7 @@ use Rattle.cap_add_laws.specs.Closure.{MorphismMatrix, AreObjects, diagonal_of, 
 use Rattle.cap_add_laws.proofs.DirectSum.{append-objects}
 use Rattle.cap_addclosure.specs.Sizes.{closure_size, IsSizeInSum}
 use Rattle.cap_addclosure.proofs.Faults.{fault-of, either-fits}
+use Rattle.cap_addclosure.proofs.Limits.{uncut}
 use Rattle.cap_addclosure.proofs.Units.{first-equal, second-equal}
 use Rattle.cap_addclosure.proofs.diagonals.direct_sum.Goals as goal
 
@@ -97,8 +98,21 @@ returns-in_err-p2 g c =
     (fault-of (IsSizeInSum T a b) (λ z. z ≡ closure_size T s b) (λ x. x ≡ closure_sum T a b) (λ x. x ≡ diagonal_of T s b (length c.parts.result.now) 0) e
     (λ z m. inr (inr (m ∙ ap (λ (q : List ℕ). closure_size T q b) c.in_ok-s.ensures))) c.in_err-p2.ensures)
 
-pub returns-then-first-second : goal.returns-then-first-second
-returns-then-first-second g c = ?
+pub returns-then-count : goal.returns-then-count
+returns-then-count g c =
+    let T = g.T.Table.table c.args.table.now in
+    let a = c.args.a.now in
+    let b = c.args.b.now in
+    let n = ap (λ (z : List ℕ). length z) c.parts.ensures.value in
+    let m = ap (λ (z : List ℕ). length z) c.parts-2.ensures.value in
+    let all : length c.parts.result.now + length c.parts-2.result.now ≡ length (a ++ b) = ap (λ k. k + length c.parts-2.result.now) n ∙ ap (λ k. length a + k) m ∙ sym (length-append a b) in
+    record {
+      size = closure_size T a (a ++ b);
+      is_met = inl (inl refl);
+      past = λ (h : Fits (closure_size T a (a ++ b))). omega (arith, h.columns, all, c.if-count.true);
+      rows_named = n ∙ uncut (length a) (omega (arith, c.parts.ensures.few, n));
+      columns_named = all ∙ uncut (length (a ++ b)) (omega (arith, c.parts.ensures.few, c.parts-2.ensures.few, n, m, all));
+    }
 
 pub returns : goal.returns
 returns g c =

@@ -25,7 +25,19 @@ one-more T a b entries k h x q lt = ⊎_elim
     (cases_eq q k)
 
 pub loop-k-preserved : goal.loop-k-preserved
-loop-k-preserved g c = ?
+loop-k-preserved g c =
+    let T = g.T.Table.table c.args.table.now in
+    let k = c.loop-k.k in
+    one-more T c.args.a.now c.args.b.now c.args.entries.now k c.loop-k.invariant
+    (has-width T c.args.a.now c.args.b.now c.args.entries.now k c.index-entries-k.result c.requires.many c.loop-k-test.true c.index-entries-k.is c.len.result c.width.result c.len.ensures c.width.ensures.value c.if-len-width.false)
 
-pub returns-then-ne : goal.returns-then-ne
-returns-then-ne g c = ?
+pub returns-then-len-width : goal.returns-then-len-width
+returns-then-len-width g c =
+    let T = g.T.Table.table c.args.table.now in
+    let k = c.loop-k.k in
+    record {
+      inside = c.loop-k-test.true;
+      wrong = λ h. c.if-len-width.true
+          (same-width T c.args.a.now c.args.b.now c.args.entries.now k c.index-entries-k.result c.requires.many c.loop-k-test.true c.index-entries-k.is c.len.result c.width.result c.len.ensures c.width.ensures.value h);
+      before = c.loop-k.invariant;
+    }

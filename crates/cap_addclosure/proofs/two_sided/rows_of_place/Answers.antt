@@ -11,7 +11,7 @@ two_sided_row-requires-clause-element g c =
     let T = g.T.Table.table c.args.table.now in
     let a = c.parts-a.ensures.value ∙ c.target.ensures in
     let b = c.parts-b.ensures.value ∙ c.source.ensures in
-    let wide = c.width.ensures.value ∙ ap (λ (z : List ℕ). width_of T (get_or z c.args.i 0) (get_or c.parts-b.result.now c.args.j 0)) a ∙ ap (λ (z : List ℕ). width_of T (get_or c.args.l.now.to c.args.i 0) (get_or z c.args.j 0)) b in
+    let wide = c.width-t-end.ensures.value ∙ ap (λ (z : List ℕ). width_of T (get_or z c.args.i 0) (get_or c.parts-b.result.now c.args.j 0)) a ∙ ap (λ (z : List ℕ). width_of T (get_or c.args.l.now.to c.args.i 0) (get_or z c.args.j 0)) b in
     subst (λ n. c.loop-t.t < n) wide c.loop-t-test.true
 
 pub loop-t-init : goal.loop-t-init
@@ -32,7 +32,7 @@ loop-t-preserved g c =
     let t = c.loop-t.t in
     let a = c.parts-a.ensures.value ∙ c.target.ensures in
     let b = c.parts-b.ensures.value ∙ c.source.ensures in
-    let wide = c.width.ensures.value ∙ ap (λ (z : List ℕ). width_of T (get_or z i 0) (get_or c.parts-b.result.now j 0)) a ∙ ap (λ (z : List ℕ). width_of T (get_or l.to i 0) (get_or z j 0)) b in
+    let wide = c.width-t-end.ensures.value ∙ ap (λ (z : List ℕ). width_of T (get_or z i 0) (get_or c.parts-b.result.now j 0)) a ∙ ap (λ (z : List ℕ). width_of T (get_or l.to i 0) (get_or z j 0)) b in
     let lt : t < width_of T (get_or l.to i 0) (get_or r.from j 0) = subst (λ n. t < n) wide c.loop-t-test.true in
     let R = λ (t : ℕ). joined (two_sided T l r i j t).entries in
     let m = sum_list (widths_of T l.from r.to) in
@@ -48,6 +48,6 @@ returns g c =
     let j = c.args.j in
     let a = c.parts-a.ensures.value ∙ c.target.ensures in
     let b = c.parts-b.ensures.value ∙ c.source.ensures in
-    let wide = c.width.ensures.value ∙ ap (λ (z : List ℕ). width_of T (get_or z i 0) (get_or c.parts-b.result.now j 0)) a ∙ ap (λ (z : List ℕ). width_of T (get_or l.to i 0) (get_or z j 0)) b in
-    let end : c.loop-t.t ≡ c.width.result = omega (arith, c.loop-t-test.false, c.loop-t.auto.t-end) in
+    let wide = c.width-t-end.ensures.value ∙ ap (λ (z : List ℕ). width_of T (get_or z i 0) (get_or c.parts-b.result.now j 0)) a ∙ ap (λ (z : List ℕ). width_of T (get_or l.to i 0) (get_or z j 0)) b in
+    let end : c.loop-t.t ≡ c.width-t-end.result = omega (arith, c.loop-t-test.false, c.loop-t.auto.t-end) in
     subst (λ n. IsStack n (sum_list (widths_of T l.from r.to)) (λ (t : ℕ). joined (two_sided T l r i j t).entries) c.loop-t.rows.items) (end ∙ wide) c.loop-t.invariant

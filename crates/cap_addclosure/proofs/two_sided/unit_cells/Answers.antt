@@ -16,4 +16,4 @@ one-set n t old lt e =
     (cases_eq i t))
 
 pub returns : goal.returns
-returns c = ?
+returns c = one-set c.args.n c.args.t c.in_ok-row.row.items c.requires c.in_ok-row.ensures
