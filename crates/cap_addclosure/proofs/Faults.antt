@@ -1,5 +1,5 @@
 -- Faults of calls after others.
-use Rattle.std.proofs.Common.{◌≡◌, ◌⊎◌, inl, inr, Result, Err}
+use Rattle.std.proofs.Common.{◌⊎◌, inl, inr, Err}
 use Rattle.cap_laws.specs.declared.faults.CatFault.{CatFault}
 use Rattle.cap_laws.specs.declared.faults.CatFault.TheVariants.{TooLarge, NoMemory}
 use Rattle.cap_laws.specs.Answers.{Size, Fits, Answers}

@@ -1,15 +1,14 @@
 -- Products from both sides with a matrix that has one basis element.
-use Rattle.std.proofs.Common.{◌≡◌, ◌≢◌, ℕ, ◌+◌, ◌*◌, ◌/◌, ◌%◌, ◌<◌, List, [], length, get_or, take, refl, sym, ap, ◌∙◌, subst, arith, ⊎_elim}
-use Rattle.std.proofs.lemmas.Bool.{cases_eq}
+use Rattle.std.proofs.Common.{◌≡◌, ◌≢◌, ℕ, ◌+◌, ◌*◌, ◌%◌, ◌<◌, List, length, get_or, take, sym, ap, ◌∙◌, subst, arith}
 use Rattle.std.proofs.lemmas.Nat.{div-mul-add, mod-mul-add, mul-add-lt, same_from_place}
 use Rattle.cap_field.proofs.Fermat.{tabled_range}
 use Rattle.cap_laws.specs.Linear.{Arrow, Same}
-use Rattle.cap_laws.specs.Table.{TableData, Combination, IsTable, IsRow, table_data, width_of}
+use Rattle.cap_laws.specs.Table.{TableData, Combination, IsTable, table_data, width_of}
 use Rattle.cap_laws.proofs.Calculus.{same, ◌⟫◌ as join, composed, compose-zero, zero-compose}
-use Rattle.cap_homlaw.specs.Rows.{AreResidues, unit_row, zero_row}
+use Rattle.cap_homlaw.specs.Rows.{unit_row, zero_row}
 use Rattle.cap_homlaw.specs.Hom.{basis_of}
 use Rattle.cap_homlaw.proofs.Rows.{unit-residues}
-use Rattle.cap_add_laws.specs.Closure.{MorphismMatrix, entry_of, AreObjects, closure_data, closure_hom, widths_of, sum_list, sum_below, cut_by, morphism_by}
+use Rattle.cap_add_laws.specs.Closure.{MorphismMatrix, entry_of, AreObjects, closure_data, closure_hom, widths_of, sum_list, morphism_by}
 use Rattle.cap_add_laws.proofs.Sums.{sum-zeros, sum-one}
 use Rattle.cap_add_laws.proofs.Entries.{entry-arrow, by-arrow, by-entry, matrix-ext}
 use Rattle.cap_add_laws.proofs.Linear.{from-objects, to-objects, term-arrow, compose-arrow, compose-entry}

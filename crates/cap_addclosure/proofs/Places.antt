@@ -1,9 +1,9 @@
 -- The entries of a matrix, one after another.
-use Rattle.std.proofs.Common.{◌≡◌, ℕ, ◌+◌, ◌*◌, ◌/◌, ◌%◌, ◌<◌, List, [], length, get_or, refl, sym, ap, ◌∙◌, subst, arith}
+use Rattle.std.proofs.Common.{◌≡◌, ℕ, ◌+◌, ◌*◌, ◌/◌, ◌%◌, ◌<◌, List, [], length, get_or, ap, ◌∙◌, subst, arith}
 use Rattle.cap_laws.specs.Linear.{Arrow}
-use Rattle.cap_laws.specs.Table.{TableData, Combination, table_data, width_of, row_below}
+use Rattle.cap_laws.specs.Table.{TableData, table_data, width_of, row_below}
 use Rattle.cap_homlaw.specs.Rows.{AreResidues}
-use Rattle.cap_add_laws.specs.Closure.{MorphismMatrix, entry_of, closure_data, widths_of}
+use Rattle.cap_add_laws.specs.Closure.{MorphismMatrix, entry_of, closure_data}
 use Rattle.cap_add_laws.proofs.Joined.{rows-at}
 use Rattle.cap_add_laws.proofs.Structure.{widths-many, width-at, place-row, matrix-rows}
 

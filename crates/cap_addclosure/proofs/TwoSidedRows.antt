@@ -19,7 +19,7 @@ use Rattle.cap_add_laws.proofs.Joined.{joined-residues}
 use Rattle.cap_add_laws.proofs.Structure.{matrix-rows, widths-many, width-at, closure-is-hom}
 use Rattle.cap_add_laws.proofs.Linear.{compose-arrow}
 use Rattle.cap_addclosure.specs.TwoSided.{element_at, two_sided, IsStack}
-use Rattle.cap_addclosure.proofs.OneElement.{two-sided-is, two-sided-arrow, number_of}
+use Rattle.cap_addclosure.proofs.OneElement.{two-sided-is, two-sided-arrow}
 use Rattle.cap_addclosure.proofs.Stacks.{stack-append, stack-one, stack-same}
 use Rattle.cap_addclosure.proofs.Widths.{sum-next}
 

@@ -1,7 +1,7 @@
 // Whether entries have the numbers of coefficients that a matrix between two lists has.
-ghost use Rattle.std.specs.Prelude.{◌≡◌, ℕ, ◌+◌, ◌*◌, ◌<◌, ◌≤◌, MatchOption, length};
+ghost use Rattle.std.specs.Prelude.{◌≡◌, ◌*◌, ◌≤◌, MatchOption, length};
 ghost use Rattle.cap_add_laws.specs.Closure.{AreObjects};
-ghost use Rattle.cap_addclosure.specs.Shapes.{HasWidth, HasWidths, IsFirstWrong};
+ghost use Rattle.cap_addclosure.specs.Shapes.{HasWidths, IsFirstWrong};
 
 use crate::sizes::width;
 use cap_laws::Table;

@@ -1,5 +1,5 @@
 // Worked examples over the table with two objects and one arrow a between them: its basis is the unit of 0, a, and the unit of 1.
-ghost use Rattle.std.specs.Prelude.{◌≡◌, ◌<◌, ◌≤◌, ℕ, [], IfOk, length, slice_index, slice_index_or};
+ghost use Rattle.std.specs.Prelude.{◌<◌, ◌≤◌, ℕ, [], IfOk, length, slice_index, slice_index_or};
 ghost use Rattle.cap_add_laws.specs.Closure.{AreObjects, IsMorphismMatrix, joined};
 
 use crate::{AddCat, AddMor, AddObj, Shape};

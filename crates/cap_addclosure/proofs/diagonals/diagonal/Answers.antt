@@ -1,7 +1,6 @@
-use Rattle.std.proofs.Common.{◌≡◌, ℕ, List, refl, sym, ap, ◌∙◌, subst}
+use Rattle.std.proofs.Common.{ℕ, List, refl, ap, ◌∙◌, subst}
 use Rattle.cap_laws.specs.Answers.{Fits}
-use Rattle.cap_laws.specs.Linear.{Arrow}
-use Rattle.cap_add_laws.specs.Closure.{MorphismMatrix, closure_data, diagonal_of}
+use Rattle.cap_add_laws.specs.Closure.{MorphismMatrix, diagonal_of}
 use Rattle.cap_add_laws.proofs.Linear.{Matches, diagonal-arrow}
 use Rattle.cap_addclosure.specs.Sizes.{closure_size}
 use Rattle.cap_addclosure.proofs.Built.{all-many, all-few, answers-by}

@@ -1,4 +1,4 @@
-use Rattle.std.proofs.Common.{◌≡◌, ℕ, ◌+◌, ◌<◌, ◌≤◌, ◌⊎◌, inl, inr, List, ◌++◌, length, get_or, Err, Result, refl, sym, ap, ◌∙◌, subst, arith, rules, length-append}
+use Rattle.std.proofs.Common.{◌≡◌, ℕ, ◌+◌, ◌⊎◌, inl, inr, List, ◌++◌, length, get_or, Err, Result, refl, sym, ap, ◌∙◌, subst, arith, rules, length-append}
 use Rattle.cap_laws.specs.Answers.{Size, Fits, Answers}
 use Rattle.cap_laws.specs.declared.faults.CatFault.{CatFault}
 use Rattle.cap_laws.specs.declared.values.Sum.{Sum}

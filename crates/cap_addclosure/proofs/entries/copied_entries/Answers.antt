@@ -1,4 +1,3 @@
-use Rattle.std.proofs.Common.{◌≡◌, ℕ, List}
 use Rattle.std.proofs.lemmas.List.Elements.{same_from_all_zip}
 use Rattle.cap_addclosure.proofs.Built.{ok-map}
 use Rattle.cap_addclosure.proofs.entries.copied_entries.Goals as goal

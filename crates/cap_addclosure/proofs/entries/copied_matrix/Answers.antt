@@ -1,5 +1,5 @@
-use Rattle.std.proofs.Common.{◌≡◌, ℕ, ◌*◌, List, length, sym, ap, ◌∙◌, subst, arith}
-use Rattle.cap_add_laws.specs.Closure.{MorphismMatrix, joined}
+use Rattle.std.proofs.Common.{ℕ, ◌*◌, List, length, sym, ap, ◌∙◌, arith}
+use Rattle.cap_add_laws.specs.Closure.{joined}
 use Rattle.cap_addclosure.proofs.Built.{copies-built}
 use Rattle.cap_addclosure.proofs.entries.copied_matrix.Goals as goal
 

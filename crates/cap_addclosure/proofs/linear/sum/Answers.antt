@@ -1,4 +1,4 @@
-use Rattle.std.proofs.Common.{◌≡◌, ℕ, ◌*◌, List, length, refl, sym, ap, ◌∙◌}
+use Rattle.std.proofs.Common.{ℕ, ◌*◌, List, length, refl, sym, ap, ◌∙◌}
 use Rattle.cap_laws.specs.Linear.{Arrow}
 use Rattle.cap_laws.specs.Table.{table_data}
 use Rattle.cap_add_laws.specs.Closure.{MorphismMatrix, entry_of, closure_data}

@@ -1,4 +1,4 @@
-use Rattle.std.proofs.Common.{◌≡◌, get_or}
+use Rattle.std.proofs.Common.{◌≡◌}
 use Rattle.cap_laws.specs.Table.{table_data}
 use Rattle.cap_add_laws.specs.Closure.{entry_of}
 use Rattle.cap_addclosure.proofs.Built.{first_entries}

@@ -1,4 +1,4 @@
-use Rattle.std.proofs.Common.{◌≡◌, ℕ, ◌*◌, List, length, refl, sym, ap, ◌∙◌, subst, arith}
+use Rattle.std.proofs.Common.{◌≡◌, ℕ, List, length, refl, sym, ap, ◌∙◌, subst, arith}
 use Rattle.cap_laws.specs.Answers.{Fits}
 use Rattle.cap_add_laws.specs.Closure.{MorphismMatrix, widths_of, sum_list, cut_by, joined, closure_hom}
 use Rattle.cap_add_laws.proofs.Joined.{rows-many, cut-rows, joined-cut}

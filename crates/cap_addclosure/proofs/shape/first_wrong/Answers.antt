@@ -1,10 +1,9 @@
-use Rattle.std.proofs.Common.{◌≡◌, ◌≢◌, ℕ, ◌+◌, ◌*◌, ◌/◌, ◌%◌, ◌<◌, ◌≤◌, List, [], length, get_or, sym, ap, ◌∙◌, subst, arith, ⊎_elim}
+use Rattle.std.proofs.Common.{◌≡◌, ◌≢◌, ℕ, ◌+◌, ◌*◌, ◌/◌, ◌%◌, ◌<◌, List, [], length, get_or, sym, ap, ◌∙◌, subst, arith, ⊎_elim}
 use Rattle.std.proofs.lemmas.Bool.{cases_eq}
 use Rattle.std.proofs.lemmas.List.{get_or_default}
 use Rattle.cap_laws.specs.Table.{TableData, width_of}
-use Rattle.cap_add_laws.specs.Closure.{widths_of}
-use Rattle.cap_add_laws.proofs.Structure.{widths-many, width-at}
-use Rattle.cap_addclosure.specs.Shapes.{HasWidth, HasWidths, IsFirstWrong}
+use Rattle.cap_add_laws.proofs.Structure.{width-at}
+use Rattle.cap_addclosure.specs.Shapes.{HasWidth, HasWidths}
 use Rattle.cap_addclosure.proofs.shape.first_wrong.Goals as goal
 
 -- the number of coefficients of an element of the list, and of the entry there

@@ -1,4 +1,4 @@
-use Rattle.std.proofs.Common.{◌≡◌, ℕ, ◌*◌, ◌<◌, ◌≤◌, [], length, get_or}
+use Rattle.std.proofs.Common.{ℕ, ◌*◌, ◌<◌, ◌≤◌, [], length, get_or}
 use Rattle.cap_add_laws.specs.Closure.{joined}
 use Rattle.cap_addclosure.proofs.tests.rows.Given as goal
 

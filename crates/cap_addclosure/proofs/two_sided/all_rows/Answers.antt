@@ -1,4 +1,4 @@
-use Rattle.std.proofs.Common.{◌≡◌, ℕ, ◌+◌, ◌*◌, ◌/◌, ◌%◌, ◌<◌, List, [], ◌++◌, length, get_or, take, sym, ap, ◌∙◌, subst, arith}
+use Rattle.std.proofs.Common.{◌≡◌, ℕ, ◌+◌, ◌*◌, ◌/◌, ◌%◌, ◌<◌, List, ◌++◌, length, get_or, take, sym, ap, ◌∙◌, subst, arith}
 use Rattle.cap_laws.specs.Table.{width_of}
 use Rattle.cap_add_laws.specs.Closure.{joined, sum_list, widths_of}
 use Rattle.cap_add_laws.proofs.Structure.{widths-many}

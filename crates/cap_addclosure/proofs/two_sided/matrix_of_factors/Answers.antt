@@ -1,10 +1,8 @@
-use Rattle.std.proofs.Common.{◌≡◌, ℕ, ◌+◌, ◌-◌, ◌*◌, ◌^◌, ◌<◌, min, ◌⊎◌, inl, inr, List, length, get_or, refl, sym, ap, ◌∙◌, subst, arith, rules}
+use Rattle.std.proofs.Common.{◌≡◌, ℕ, ◌-◌, ◌*◌, ◌^◌, ◌<◌, min, ◌⊎◌, inr, List, get_or, refl, sym, ap, ◌∙◌, subst, rules}
 use Rattle.cap_matrix.specs.Buffer.{matrix_of}
-use Rattle.cap_matrix.specs.Grid.{Grid}
 use Rattle.cap_laws.specs.Answers.{Size, Fits, numbers}
 use Rattle.cap_add_laws.specs.Closure.{sum_list, widths_of}
 use Rattle.cap_addclosure.specs.Sizes.{closure_size}
-use Rattle.cap_addclosure.specs.TwoSided.{IsStack}
 use Rattle.cap_addclosure.proofs.Built.{held-fits}
 use Rattle.cap_addclosure.proofs.Faults.{either-fits}
 use Rattle.cap_addclosure.proofs.Limits.{fits-numbers, past-numbers}

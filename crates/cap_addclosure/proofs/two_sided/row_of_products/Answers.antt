@@ -1,6 +1,6 @@
-use Rattle.std.proofs.Common.{◌≡◌, ℕ, ◌+◌, ◌*◌, ◌<◌, List, [], ◌++◌, map, length, get_or, sym, ap, ◌∙◌, subst, arith}
+use Rattle.std.proofs.Common.{◌≡◌, ℕ, ◌<◌, List, ◌++◌, map, length, get_or, sym, ap, ◌∙◌, subst, arith}
 use Rattle.std.specs.List.{range_with_len}
-use Rattle.cap_laws.specs.Table.{Combination, IsRow, table_data}
+use Rattle.cap_laws.specs.Table.{IsRow, table_data}
 use Rattle.cap_add_laws.specs.Closure.{entry_of, joined}
 use Rattle.cap_addclosure.proofs.Built.{joined-more}
 use Rattle.cap_addclosure.proofs.two_sided.row_of_products.Goals as goal

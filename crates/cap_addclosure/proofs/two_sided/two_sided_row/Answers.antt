@@ -1,13 +1,10 @@
 use Rattle.std.proofs.Common.{◌≡◌, ℕ, ◌+◌, ◌*◌, ◌<◌, List, [], ◌++◌, map, length, get_or, sym, ap, ◌∙◌, subst, arith}
 use Rattle.std.specs.List.{range_with_len}
 use Rattle.std.proofs.Math.Nat.{zero-mul}
-use Rattle.cap_field.proofs.Fermat.{tabled_range}
-use Rattle.cap_laws.specs.Table.{Combination, IsRow, table_data, width_of, composed_of}
-use Rattle.cap_homlaw.specs.Rows.{AreResidues, unit_row}
-use Rattle.cap_homlaw.proofs.Rows.{unit-residues}
-use Rattle.cap_add_laws.specs.Closure.{MorphismMatrix, entry_of, joined}
-use Rattle.cap_addclosure.specs.TwoSided.{element_at}
-use Rattle.cap_addclosure.proofs.Built.{first_entries, rows-next, all-entries}
+use Rattle.cap_laws.specs.Table.{IsRow, table_data, width_of}
+use Rattle.cap_homlaw.specs.Rows.{unit_row}
+use Rattle.cap_add_laws.specs.Closure.{entry_of, joined}
+use Rattle.cap_addclosure.proofs.Built.{first_entries, rows-next}
 use Rattle.cap_addclosure.proofs.TwoSidedRows.{two_sided_piece, element-row, left-row}
 use Rattle.cap_addclosure.proofs.two_sided.two_sided_row.Goals as goal
 

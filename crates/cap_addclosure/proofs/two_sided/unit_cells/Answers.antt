@@ -1,6 +1,6 @@
-use Rattle.std.proofs.Common.{◌≡◌, ◌≢◌, ℕ, ◌<◌, List, get_or, set, length, replicate, sym, ap, ◌∙◌, subst, arith, ⊎_elim}
+use Rattle.std.proofs.Common.{◌≡◌, ◌≢◌, ℕ, ◌<◌, List, get_or, set, length, replicate, sym, ap, ◌∙◌, arith, ⊎_elim}
 use Rattle.std.proofs.lemmas.Bool.{cases_eq}
-use Rattle.std.proofs.lemmas.List.{with_items_is, length-replicate, get_or-replicate, length-set, get_or-set_same, get_or-set_other}
+use Rattle.std.proofs.lemmas.List.{length-replicate, get_or-replicate, length-set, get_or-set_same, get_or-set_other}
 use Rattle.cap_matrix.proofs.Rows.{row_by_is}
 use Rattle.cap_matrix.proofs.Entries.{delta, delta-same, delta-other}
 use Rattle.cap_homlaw.specs.Rows.{unit_row}
