@@ -13,8 +13,6 @@ mod products;
 mod rows;
 mod shape;
 mod sizes;
-#[cfg(test)]
-mod tests;
 mod two_sided;
 
 pub use category::AddCat;
