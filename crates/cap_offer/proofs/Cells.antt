@@ -1,7 +1,7 @@
 -- The residues of a literal of the right size, row after row, are the cells of the matrix that it stands for.
 use Rattle.std.proofs.Common.{◌≡◌, ◌⊎◌, ℕ, ◌+◌, ◌*◌, ◌<◌, ℤ, pos, nat_abs, List, [], ◌∷◌, length, map, take, get_or, refl, sym, ap, ◌∙◌, subst, arith, inl, inr, length-append}
 use Rattle.std.specs.Prelude.{Some}
-use Rattle.std.specs.List.{All}
+use Rattle.std.specs.List.{All, flat_map}
 use Rattle.std.proofs.lemmas.List.{length-map, get_or-map, length-take}
 use Rattle.std.proofs.lemmas.List.Elements.{All-head, All-tail, All-take, All-get_or}
 use Rattle.std.proofs.lemmas.List.Concat.{get_or-flat_map}
@@ -21,24 +21,24 @@ use Rattle.cap_offer.specs.Literals.{IsInteger, HasIntegers, HasSize, IsResidueA
 pub residue-is-of : (p : ℕ) (n : ℤ) (r : ℕ) → IsResidueOf p n r → r ≡ residue_of p (Int n)
 residue-is-of p n r h = ap nat_abs (sym (residue_value p n r h))
 
--- rows of one length have as many residues as places
-pub length-residues : (p columns : ℕ) (rows : List (List EntryLit)) → All (λ row. length row ≡ columns) rows → length (residues_of p rows) ≡ length rows * columns
-length-residues p columns [] each = let none : 0 ≡ 0 * columns = omega arith in none
-length-residues p columns (row ∷ rows) each =
+-- rows of one length have as many values as places, where each entry has one
+pub length-mapped : {B : Type 0} (f : EntryLit → B) (columns : ℕ) (rows : List (List EntryLit)) → All (λ row. length row ≡ columns) rows → length (flat_map (map f) rows) ≡ length rows * columns
+length-mapped f columns [] each = let none : 0 ≡ 0 * columns = omega arith in none
+length-mapped f columns (row ∷ rows) each =
     let first : length row ≡ columns = All-head (λ row. length row ≡ columns) row rows each in
-    let others : length (residues_of p rows) ≡ length rows * columns = length-residues p columns rows (All-tail (λ row. length row ≡ columns) row rows each) in
-    let one : length (map (residue_of p) row) ≡ length row = length-map row (residue_of p) in
-    grind (arith, length-append (map (residue_of p) row) (residues_of p rows), first, others, one)
+    let others : length (flat_map (map f) rows) ≡ length rows * columns = length-mapped f columns rows (All-tail (λ row. length row ≡ columns) row rows each) in
+    let one : length (map f row) ≡ length row = length-map row f in
+    grind (arith, length-append (map f row) (flat_map (map f) rows), first, others, one)
 
 -- the one of row i and column j stands behind i whole rows
-pub residue-at : (p columns : ℕ) (rows : List (List EntryLit)) (i j : ℕ) (d : EntryLit) → All (λ row. length row ≡ columns) rows → i < length rows → j < columns
-    → get_or (residues_of p rows) (i * columns + j) 0 ≡ residue_of p (get_or (get_or rows i []) j d)
-residue-at p columns rows i j d each row column =
+pub mapped-at : {B : Type 0} (f : EntryLit → B) (o : B) (columns : ℕ) (rows : List (List EntryLit)) (i j : ℕ) (d : EntryLit) → All (λ row. length row ≡ columns) rows → i < length rows → j < columns
+    → get_or (flat_map (map f) rows) (i * columns + j) o ≡ f (get_or (get_or rows i []) j d)
+mapped-at f o columns rows i j d each row column =
     let wide : length (get_or rows i []) ≡ columns = All-get_or (λ row. length row ≡ columns) rows i [] row each in
-    let before : length (residues_of p (take i rows)) ≡ i * columns = grind (arith, length-residues p columns (take i rows) (All-take (λ row. length row ≡ columns) i rows each), length-take i rows) in
-    let inside : j < length (map (residue_of p) (get_or rows i [])) = grind (arith, length-map (get_or rows i []) (residue_of p), wide) in
-    let found : get_or (residues_of p rows) (length (residues_of p (take i rows)) + j) 0 ≡ get_or (map (residue_of p) (get_or rows i [])) j 0 = get_or-flat_map (map (residue_of p)) rows i j [] 0 row inside in
-    ap (λ k. get_or (residues_of p rows) (k + j) 0) (sym before) ∙ found ∙ get_or-map (residue_of p) (get_or rows i []) j d 0 (subst (λ n. j < n) (sym wide) column)
+    let before : length (flat_map (map f) (take i rows)) ≡ i * columns = grind (arith, length-mapped f columns (take i rows) (All-take (λ row. length row ≡ columns) i rows each), length-take i rows) in
+    let inside : j < length (map f (get_or rows i [])) = grind (arith, length-map (get_or rows i []) f, wide) in
+    let found : get_or (flat_map (map f) rows) (length (flat_map (map f) (take i rows)) + j) o ≡ get_or (map f (get_or rows i [])) j o = get_or-flat_map (map f) rows i j [] o row inside in
+    ap (λ k. get_or (flat_map (map f) rows) (k + j) o) (sym before) ∙ found ∙ get_or-map f (get_or rows i []) j d o (subst (λ n. j < n) (sym wide) column)
 
 -- an entry that is an integer
 pub record IsIntegerWith (p : ℕ) (e : EntryLit) : Type 0 where
@@ -56,11 +56,11 @@ pub record AreCells (p rows columns : ℕ) (m : MatLit) (cells : List ℕ) : Typ
   pub at : (i j : ℕ) → i < rows → j < columns → IsResidueAt p m i j (get_or cells (i * columns + j) 0)
 
 -- without rows or without columns there is no place
-no-places : (rows columns : ℕ) → (rows ≡ 0) ⊎ (columns ≡ 0) → rows * columns ≡ 0
+pub no-places : (rows columns : ℕ) → (rows ≡ 0) ⊎ (columns ≡ 0) → rows * columns ≡ 0
 no-places rows columns (inl e) = ap (λ n. n * columns) e ∙ (let none : 0 * columns ≡ 0 = omega arith in none)
 no-places rows columns (inr e) = ap (λ n. rows * n) e ∙ (let none : rows * 0 ≡ 0 = omega arith in none)
 
-no-place : (rows columns i j : ℕ) → (rows ≡ 0) ⊎ (columns ≡ 0) → i < rows → j < columns → ⊥
+pub no-place : (rows columns i j : ℕ) → (rows ≡ 0) ⊎ (columns ≡ 0) → i < rows → j < columns → ⊥
 no-place rows columns i j (inl e) row column = omega arith
 no-place rows columns i j (inr e) row column = omega arith
 
@@ -76,13 +76,13 @@ module _ (p columns : ℕ) (m : MatLit) (some : 0 < p) (integers : HasIntegers m
       record {
         integer = e.integer;
         stands = slice_get-get_or (get_or m.rows i []) j d inside ∙ ap (λ x. Some x) e.same;
-        residue = subst (IsResidueOf p e.integer) (sym (residue-at p columns m.rows i j d each row column)) e.residue;
+        residue = subst (IsResidueOf p e.integer) (sym (mapped-at (residue_of p) 0 columns m.rows i j d each row column)) e.residue;
       }
 
   -- a literal of the right size has them
   pub are_cells : (rows : ℕ) → HasSize rows columns m → AreCells p rows columns m (residues_of p m.rows)
   are_cells rows (inl h) = record {
-    many = length-residues p columns m.rows h.1 ∙ ap (λ n. n * columns) h.0;
+    many = length-mapped (residue_of p) columns m.rows h.1 ∙ ap (λ n. n * columns) h.0;
     at = λ i j row column. cell-at h.1 i j (subst (λ n. i < n) (sym h.0) row) column;
   }
   are_cells rows (inr h) = record {

@@ -2,3 +2,4 @@ pub mod Offers
 pub mod Cells
 pub mod Literals
 pub mod Known
+pub mod Combinations

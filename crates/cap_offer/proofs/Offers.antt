@@ -5,16 +5,18 @@ use Rattle.cap_data.specs.declared.data.ObjData.{ObjData}
 use Rattle.cap_data.specs.declared.data.ObjData.TheVariants.{Dim}
 use Rattle.cap_data.specs.declared.data.MorData.{MorData}
 use Rattle.cap_data.specs.OfMatrices.{read_dimension}
+use Rattle.cap_ops.specs.declared.plans.Kind.TheVariants.{Mat, Add}
 use Rattle.cap_ops.specs.Told.{IsArrow}
 use Rattle.cap_primitives.specs.Given.{from_to}
+use Rattle.cap_names.specs.declared.literals.MatLit.{MatLit}
 use Rattle.cap_names.specs.declared.literals.MorLit.{MorLit}
 use Rattle.cap_names.specs.declared.literals.MorLit.TheVariants as morphisms
 use Rattle.cap_offer.specs.declared.faults.LitFault.{LitFault}
-use Rattle.cap_offer.specs.Literals.{IsGiven, Gives, morphism_literal}
+use Rattle.cap_offer.specs.Literals.{HasIntegers, HasMorphismForm, IsGiven, Gives, morphism_literal}
 use Rattle.cap_vec_offer.specs.Members.{offer_kind, offer_weights, offer_prime, offer_abelian}
 use Rattle.cap_vec_offer.proofs.Canonical.{canonical}
 use Rattle.cap_vec_offer.proofs.Data.{objects_are, morphisms_are}
-use Rattle.cap_offer.specs.Labels.{Label, vec, any_offer}
+use Rattle.cap_offer.specs.Labels.{Label, vec, add, kind_of, any_offer}
 use Rattle.cap_offer.specs.Laws.{IsTabled, IsOfferOf, AreOneOffer, OfferGoesByLabel, RulesHold, AnswersAreCanonical}
 
 is_offer_of : (l : Label) → IsOfferOf l
@@ -32,9 +34,14 @@ rules_hold (vec p) = inr (offer_abelian p)
 pub are_canonical : AnswersAreCanonical
 are_canonical (vec p) t op args v fits answer = canonical p t op args v fits answer
 
--- dimensions are objects
-pub dimension-object : (l : Label) (n : ℕ) (x : ObjData) → x ≡ Dim n → (any_offer l).category.is_object x
-dimension-object (vec p) n x e = (objects_are p x).1 (n, e)
+-- in categories of matrices dimensions are objects, and a literal of integers has the form of a morphism
+pub dimension-object : (l : Label) → kind_of l ≡ Mat → (n : ℕ) (x : ObjData) → x ≡ Dim n → (any_offer l).category.is_object x
+dimension-object (vec p) is n x e = (objects_are p x).1 (n, e)
+dimension-object (add V) is n x e = absurd (let no : Add ≡ Mat = is in cc)
+
+pub matrix-form : (l : Label) → kind_of l ≡ Mat → (m : MatLit) → HasIntegers m → HasMorphismForm l (morphisms.Rows m)
+matrix-form (vec p) is m integers = integers
+matrix-form (add V) is m integers = absurd (let no : Add ≡ Mat = is in cc)
 
 same-dimension : (a : ObjData) (n : ℕ) → a ≡ Dim n → a ≡ Dim (read_dimension a)
 same-dimension a n e = subst (λ x. x ≡ Dim (read_dimension x)) (sym e) refl

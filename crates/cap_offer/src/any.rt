@@ -1,15 +1,17 @@
 // A category of any kind.
 ghost use Rattle.std.specs.Prelude.{◌≡◌, IfOk};
-ghost use Rattle.cap_ops.specs.declared.plans.Kind.TheVariants.{Mat};
 ghost use Rattle.cap_primitives.specs.Given.{from_to};
 ghost use Rattle.cap_ops.specs.Told.{IsArrow};
 
+use crate::combinations::read_entries;
 use crate::faults::LitFault;
 use crate::matrices::read_matrix;
-use crate::objects::read_dimension;
+use crate::objects::{read_dimension, read_list};
+use cap_add_offer::ListOffer;
 use cap_data::{MorData, ObjData};
 use cap_field::Field;
 use cap_laws::CatFault;
+use cap_lincat::LinTable;
 use cap_names::{MorLit, NoMemory, ObjLit, OpId};
 use cap_ops::{Arg, Kind, Objects, Offer, PrimOut};
 use cap_vec_offer::VecOffer;
@@ -17,13 +19,14 @@ use std::alloc::Global;
 use std::marker::Model;
 
 /// The category of a kind.
-#[derive(Debug, Drop)]
+#[derive(Drop)]
 enum Over {
     Matrices(VecOffer),
+    Lists(ListOffer),
 }
 
 /// A category of any kind: its primitives, and the literals of its objects and morphisms. Contracts see it as its label.
-#[derive(Debug, Drop)]
+#[derive(Drop)]
 pub struct AnyCat {
     over: Over,
 }
@@ -37,38 +40,59 @@ impl Model for AnyCat {
 }
 
 impl AnyCat {
-    ghost use Rattle.cap_offer.specs.Labels.{vec, any_offer};
+    ghost use Rattle.cap_offer.specs.Labels.{any_offer};
+    ghost use Rattle.cap_offer.specs.Made.{HasTable, IsOver};
     ghost use Rattle.cap_offer.specs.Literals.{HasObjectForm, HasMorphismForm, Gives, object_literal, morphism_literal};
 
-    /// The category of matrices over a field: the kind of additive closures, Freyd categories and functors has none yet.
-    pub fn new(_alloc: Global, _kind: Kind, field: Field) -> Result<AnyCat, NoMemory>
-        requires { _kind ≡ Mat }
-        ensures { IfOk result (λ c. c ≡ vec field) }
+    /// The category of a kind over a field: of matrices, or the additive closure of a table of that field, which is given exactly there. The kinds of Freyd categories
+    /// and of functor categories have none yet.
+    pub fn new(
+        alloc: Global,
+        kind: Kind,
+        field: Field,
+        table: Option<&LinTable>,
+    ) -> Result<AnyCat, NoMemory>
+        requires { HasTable kind field table.now }
+        ensures { IfOk result (λ c. IsOver kind field table.now c) }
     {
-        Ok(AnyCat {
-            over: Over::Matrices(VecOffer::new(field)),
-        })
+        let _ = field.prime();
+        match (kind, table) {
+            (Kind::Mat, None) => Ok(AnyCat {
+                over: Over::Matrices(VecOffer::new(field)),
+            }),
+            (Kind::Add, Some(table)) => {
+                let table = table.copy(alloc)?;
+                Ok(AnyCat {
+                    over: Over::Lists(ListOffer::new(table)),
+                })
+            }
+            _ => unreachable!(),
+        }
     }
 
     /// An equal category.
-    pub fn copy(&self, _alloc: Global) -> Result<AnyCat, NoMemory>
+    pub fn copy(&self, alloc: Global) -> Result<AnyCat, NoMemory>
         ensures { IfOk result (λ c. c ≡ self.now) }
     {
         match &self.over {
             Over::Matrices(offer) => Ok(AnyCat {
                 over: Over::Matrices(VecOffer::new(offer.field())),
             }),
+            Over::Lists(offer) => Ok(AnyCat {
+                over: Over::Lists(offer.copy(alloc)?),
+            }),
         }
     }
 
     /// The object that a literal of the kind's form stands for; else its least wrong part, a size past the limits, or the first law that it breaks.
-    pub fn object(&self, _alloc: Global, lit: &ObjLit) -> Result<ObjData, LitFault>
+    pub fn object(&self, alloc: Global, lit: &ObjLit) -> Result<ObjData, LitFault>
         requires { HasObjectForm self.now lit.now }
         ensures gives { Gives (object_literal self.now lit.now) result }
         ensures object { IfOk result (λ x. (any_offer self.now).category.is_object x) }
     {
         match &self.over {
             Over::Matrices(_) => Ok(read_dimension(lit)),
+            Over::Lists(_) => Ok(read_list(alloc, lit)?),
         }
     }
 
@@ -92,6 +116,7 @@ impl AnyCat {
                 let _ = field.prime();
                 read_matrix(alloc, field, a, b, lit)
             }
+            Over::Lists(offer) => read_entries(alloc, offer.table(), a, b, lit),
         }
     }
 }
@@ -111,18 +136,21 @@ impl Offer for AnyCat {
     fn kind(&self) -> Kind {
         match &self.over {
             Over::Matrices(offer) => offer.kind(),
+            Over::Lists(offer) => offer.kind(),
         }
     }
 
     fn field(&self) -> Field {
         match &self.over {
             Over::Matrices(offer) => offer.field(),
+            Over::Lists(offer) => offer.field(),
         }
     }
 
     fn offers(&self, op: OpId) -> Option<u32> {
         match &self.over {
             Over::Matrices(offer) => offer.offers(op),
+            Over::Lists(offer) => offer.offers(op),
         }
     }
 
@@ -135,6 +163,7 @@ impl Offer for AnyCat {
     ) -> Result<PrimOut<ObjData, MorData>, CatFault> {
         match &self.over {
             Over::Matrices(offer) => offer.prim(alloc, op, args, objects),
+            Over::Lists(offer) => offer.prim(alloc, op, args, objects),
         }
     }
 

@@ -2,6 +2,7 @@
 #![tactic(auto)]
 
 mod any;
+mod combinations;
 mod faults;
 mod laws;
 mod matrices;

@@ -1,0 +1,125 @@
+// Literals of matrices of combinations.
+ghost use Rattle.std.specs.Prelude.{◌≡◌, ◌++◌, ◌≤◌, IfOk, map, length};
+ghost use Rattle.std.specs.List.{All};
+ghost use Rattle.cap_add_laws.specs.Closure.{AreObjects};
+ghost use Rattle.cap_encoded.specs.OfClosures.{read_list};
+ghost use Rattle.cap_offer.specs.Combinations.{residues_of_entry, lists_of};
+ghost use Rattle.cap_offer.specs.Literals.{IsCoefficients, HasCoefficients, HasEntries, Gives, entries_literal, entries_between};
+
+use crate::faults::LitFault;
+use crate::matrices::has_size;
+use cap_addclosure::{count_within_limits, first_wrong};
+use cap_data::{Entries, MorData, ObjData};
+use cap_field::Field;
+use cap_laws::{CatFault, Table};
+use cap_lincat::LinTable;
+use cap_names::{EntryLit, Items, MatLit, MorLit, NoMemory, TooLarge};
+use std::alloc::Global;
+
+/// The residues of an entry's coefficients.
+fn residues(alloc: Global, field: Field, entry: &EntryLit) -> Result<Items<u16>, NoMemory>
+    requires { IsCoefficients entry.now }
+    ensures { IfOk result (λ row. row ≡ residues_of_entry field entry.now) }
+{
+    match entry {
+        EntryLit::Coeffs(coefficients) => {
+            let mut row = Vec::new(alloc);
+            for n in coefficients.as_slice() {
+                row.push(field.residue(*n))?;
+            }
+            Ok(Items::new(row))
+        }
+        EntryLit::Int(_) => unreachable!(),
+    }
+}
+
+/// Puts the residues of a row's entries behind others.
+fn put_row(
+    alloc: Global,
+    entries: &mut Vec<Items<u16>>,
+    field: Field,
+    row: &[EntryLit],
+) -> Result<(), NoMemory>
+    requires { All IsCoefficients row.now }
+    ensures { IfOk result (λ _. entries.new.items ≡ entries.old.items ++ map (residues_of_entry field) row.now) }
+{
+    for entry in row {
+        entries.push(residues(alloc, field, entry)?)?;
+    }
+    Ok(())
+}
+
+/// The residues of all entries, one row after another.
+fn all_residues(
+    alloc: Global,
+    field: Field,
+    rows: &[Items<EntryLit>],
+) -> Result<Vec<Items<u16>>, NoMemory>
+    requires { All (λ row. All IsCoefficients row) rows.now }
+    ensures { IfOk result (λ entries. entries.items ≡ lists_of field rows.now) }
+{
+    let mut entries = Vec::new(alloc);
+    for row in rows {
+        put_row(alloc, &mut entries, field, row.as_slice())?;
+    }
+    Ok(entries)
+}
+
+/// The matrix of combinations between two lists that a literal stands for.
+fn read_rows(
+    alloc: Global,
+    table: &LinTable,
+    a: &[u32],
+    b: &[u32],
+    lit: &MatLit,
+) -> Result<MorData, LitFault>
+    requires from { AreObjects (⟦<LinTable as Table>⟧.table table.now) a.now }
+    requires to { AreObjects (⟦<LinTable as Table>⟧.table table.now) b.now }
+    requires short { length a.now ≤ 2048 }
+    requires narrow { length b.now ≤ 2048 }
+    requires entries { HasCoefficients lit.now }
+    ensures { Gives (entries_literal (⟦<LinTable as Table>⟧.table table.now) a.now b.now lit.now) result }
+{
+    if !has_size(a.len() as u32, b.len() as u32, lit) {
+        return Err(LitFault::Shape { part: 0 });
+    }
+    let entries = all_residues(alloc, table.field(), lit.rows.as_slice())?;
+    if let Some(k) = first_wrong(table, a, b, &entries) {
+        return Err(LitFault::Shape { part: k + 1 });
+    }
+    match count_within_limits(table, a, b) {
+        Ok(_) => Ok(MorData::Entries(Entries::new(Items::new(entries)))),
+        Err(CatFault::TooLarge { rows, cols }) => Err(LitFault::TooLarge(TooLarge { rows, cols })),
+        Err(CatFault::NoMemory) => Err(LitFault::NoMemory),
+    }
+}
+
+/// The list that an object is.
+fn parts(a: &ObjData) -> &[u32]
+    ensures value { result.now ≡ read_list a.now }
+    ensures few { length result.now ≤ 2048 }
+{
+    match a {
+        ObjData::Parts(parts) => parts.as_slice(),
+        _ => &[],
+    }
+}
+
+/// The matrix of combinations between lists that a literal stands for.
+pub(crate) fn read_entries(
+    alloc: Global,
+    table: &LinTable,
+    a: &ObjData,
+    b: &ObjData,
+    lit: &MorLit,
+) -> Result<MorData, LitFault>
+    requires from { AreObjects (⟦<LinTable as Table>⟧.table table.now) (read_list a.now) }
+    requires to { AreObjects (⟦<LinTable as Table>⟧.table table.now) (read_list b.now) }
+    requires entries { HasEntries lit.now }
+    ensures { Gives (entries_between (⟦<LinTable as Table>⟧.table table.now) a.now b.now lit.now) result }
+{
+    match lit {
+        MorLit::Rows(matrix) => read_rows(alloc, table, parts(a), parts(b), matrix),
+        MorLit::Parts(_) => unreachable!(),
+    }
+}
