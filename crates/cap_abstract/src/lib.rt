@@ -7,8 +7,6 @@ mod image;
 mod kernels;
 mod monos;
 mod sums;
-#[cfg(test)]
-mod tests;
 
 pub use biproduct::{
     law_direct_sum_from_product, law_lift_by_pair, law_pair_by_lift, law_product_from_direct_sum,

@@ -12,8 +12,6 @@ mod reader;
 mod refusal;
 mod steps;
 mod sums;
-#[cfg(test)]
-mod tests;
 mod words;
 mod writer;
 

@@ -5,8 +5,6 @@ mod building;
 mod checked;
 mod checking;
 mod laws;
-#[cfg(test)]
-mod tests;
 
 pub use building::built;
 pub use cap_checked::CheckedObj;

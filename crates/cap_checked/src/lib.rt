@@ -5,8 +5,6 @@ mod literals;
 mod numbers;
 mod objects;
 mod scripts;
-#[cfg(test)]
-mod tests;
 mod tree;
 
 pub use scripts::checked;

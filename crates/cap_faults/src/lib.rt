@@ -7,8 +7,6 @@ mod commands;
 mod fault;
 mod parts;
 mod scripts;
-#[cfg(test)]
-mod tests;
 mod values;
 
 pub use fault::CheckFault;

@@ -5,6 +5,3 @@ pub mod laws;
 mod values;
 
 pub use values::{Presentation, PresentationMor};
-
-#[cfg(test)]
-mod tests;

@@ -16,6 +16,3 @@ pub use sinks::{Sink, write_all};
 pub use sources::{Source, read_all};
 pub use sure::{SURE_SPACE, SureSink, SureSource};
 pub use system::{StdSink, StdSource};
-
-#[cfg(test)]
-mod tests;

@@ -13,6 +13,3 @@ pub use copies::{
 };
 pub use keys::same_key;
 pub use mentions::mentioned;
-
-#[cfg(test)]
-mod tests;

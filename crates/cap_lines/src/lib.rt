@@ -6,6 +6,3 @@ mod nodes;
 
 pub use lines::{position, whole_lines};
 pub use nodes::place_node;
-
-#[cfg(test)]
-mod tests;

@@ -19,6 +19,3 @@ pub use tokens::{
     expect, is, name_of, number_of, operation_of, starts, starts_arg, starts_entry, starts_int,
     starts_name, starts_nought, starts_number,
 };
-
-#[cfg(test)]
-mod tests;

@@ -41,6 +41,3 @@ impl From<AllocError> for MatrixFault {
         MatrixFault::NoMemory
     }
 }
-
-#[cfg(test)]
-mod tests;

@@ -11,8 +11,6 @@ mod name;
 mod operations;
 mod places;
 mod reasons;
-#[cfg(test)]
-mod tests;
 mod token;
 
 pub use faults::{NoMemory, TooLarge};

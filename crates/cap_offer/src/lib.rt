@@ -7,8 +7,6 @@ mod faults;
 mod laws;
 mod matrices;
 mod objects;
-#[cfg(test)]
-mod tests;
 
 pub use any::AnyCat;
 pub use faults::LitFault;

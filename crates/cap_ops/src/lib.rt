@@ -30,6 +30,3 @@ pub use plans::{Choice, Kind, MOST_WEIGHT, NO_PLAN, OPERATIONS, Plan, Regs, Rule
 pub use primitives::{Datum, Objects, Offer};
 pub use signatures::signature;
 pub use sorts::{Signature, Sort};
-
-#[cfg(test)]
-mod tests;

@@ -11,6 +11,3 @@ mod text;
 
 pub use lets::{Bound, Value};
 pub use text::{ScriptFault, read_script};
-
-#[cfg(test)]
-mod tests;

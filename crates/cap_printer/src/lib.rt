@@ -5,6 +5,3 @@ mod printer;
 mod texts;
 
 pub use printer::print;
-
-#[cfg(test)]
-mod tests;

@@ -8,8 +8,6 @@ mod limits;
 mod path_table;
 mod quiver;
 mod quotients;
-#[cfg(test)]
-mod tests;
 
 pub use cap_quiver_paths::Relation;
 pub use faults::{BadQuiver, QuiverFault};

@@ -8,8 +8,6 @@ mod nulls;
 mod obstructed;
 mod scan;
 mod solving;
-#[cfg(test)]
-mod tests;
 
 pub use cap_names::Items;
 pub use forms::{reduce_in_place, rref};

@@ -5,8 +5,6 @@ mod certifying;
 mod commands;
 mod laws;
 mod registering;
-#[cfg(test)]
-mod tests;
 
 pub use certifying::certificates;
 pub use commands::kind_of;

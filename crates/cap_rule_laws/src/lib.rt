@@ -4,6 +4,3 @@
 pub mod laws;
 
 pub use laws::{law_meanings_fit, sound_abelian, sound_linear};
-
-#[cfg(test)]
-mod tests;

@@ -5,8 +5,6 @@ mod bodies;
 mod codes;
 mod cost_table;
 mod rule_table;
-#[cfg(test)]
-mod tests;
 
 pub use cost_table::costs;
 pub use rule_table::rules;

@@ -12,6 +12,3 @@ pub use cap_grammar::{
 pub use fault::ScriptFault;
 pub use parsing::parse;
 pub use printing::print;
-
-#[cfg(test)]
-mod tests;

@@ -11,8 +11,6 @@ mod prelude;
 mod reports;
 mod sessions;
 mod shares;
-#[cfg(test)]
-mod tests;
 mod threads;
 mod turn_desk;
 

@@ -6,6 +6,3 @@ mod laws;
 
 pub use handles::settle;
 pub use laws::{law_settled_fits, law_settled_tells, law_settled_value};
-
-#[cfg(test)]
-mod tests;

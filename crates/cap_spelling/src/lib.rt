@@ -9,6 +9,3 @@ mod script;
 mod words;
 
 pub use script::symbols_of;
-
-#[cfg(test)]
-mod tests;

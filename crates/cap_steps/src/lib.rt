@@ -6,6 +6,3 @@ mod steps;
 
 pub use slots::{Slot, out_of_slot, slot_of_value};
 pub use steps::{any_nothing, arguments_at, copy_at, parameters, plain_step};
-
-#[cfg(test)]
-mod tests;

@@ -11,6 +11,3 @@ mod telling;
 
 pub use refusals::{EnterRefusal, StepRefusal};
 pub use state::CatState;
-
-#[cfg(test)]
-mod tests;

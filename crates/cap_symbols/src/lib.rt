@@ -9,6 +9,3 @@ mod words;
 pub use laws::law_one_symbol_list;
 pub use marks::symbols;
 pub use words::fixed_text;
-
-#[cfg(test)]
-mod tests;

@@ -16,6 +16,3 @@ pub use check::{BadStep, check_term};
 pub use laws::law_typed_bodies_fit;
 pub use occurrences::multiplicity;
 pub use rule_set::RuleSet;
-
-#[cfg(test)]
-mod tests;

@@ -4,8 +4,6 @@
 mod events;
 mod log;
 mod replies;
-#[cfg(test)]
-mod tests;
 mod values;
 
 pub use log::log_text;

@@ -17,6 +17,3 @@ pub use laws::{
     law_pushout_is_universal, law_solution_is_canonical,
 };
 pub use morphism::VecMor;
-
-#[cfg(test)]
-mod tests;

@@ -1,0 +1,7 @@
+//! Tests of matrices and of their reduction.
+#![tactic(auto)]
+
+#[cfg(test)]
+mod matrix;
+#[cfg(test)]
+mod reduce;

@@ -1,6 +1,0 @@
-use Rattle.std.specs.List.{All}
-use Rattle.cap_ops.specs.Derivations.{IsWeight}
-use Rattle.cap_plan.proofs.tests.registered.Given as goal
-
-abbrev pub invariant-loop-number : goal.invariant-loop-number
-invariant-loop-number l = All IsWeight l.regs.weights

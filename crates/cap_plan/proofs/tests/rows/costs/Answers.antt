@@ -1,7 +1,0 @@
-use Rattle.std.proofs.Common.{refl}
-use Rattle.cap_ops.proofs.DerivationsCosts.{costs_pass}
-use Rattle.cap_plan.specs.declared.tests.rows.TheConstants.{COSTS}
-use Rattle.cap_plan.proofs.tests.rows.costs.Goals as goal
-
-pub returns : goal.returns
-returns c = costs_pass COSTS refl refl

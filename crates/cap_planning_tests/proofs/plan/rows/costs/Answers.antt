@@ -1,0 +1,7 @@
+use Rattle.std.proofs.Common.{refl}
+use Rattle.cap_ops.proofs.DerivationsCosts.{costs_pass}
+use Rattle.cap_planning_tests.specs.declared.plan.rows.TheConstants.{COSTS}
+use Rattle.cap_planning_tests.proofs.plan.rows.costs.Goals as goal
+
+pub returns : goal.returns
+returns c = costs_pass COSTS refl refl
