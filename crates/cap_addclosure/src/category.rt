@@ -64,6 +64,15 @@ impl<T: Table> AddCat<T> {
         }
         Ok(AddMor::new(a, b, entries))
     }
+
+    /// The matrix from a to b with these entries, row by row, which are known to be one. Nothing is tested.
+    pub fn known_morphism(&self, a: AddObj, b: AddObj, entries: Vec<Items<u16>>) -> AddMor
+        requires matrix { IsMorphismMatrix (T.table self.now.table) (record { from = a; to = b; entries = entries.items }) }
+        requires few { length (joined entries.items) ≤ 1048576 }
+        ensures { result ≡ record { from = a; to = b; entries = entries.items } }
+    {
+        AddMor::new(a, b, entries)
+    }
 }
 
 impl<T: Table> Cat for AddCat<T> {
