@@ -35,6 +35,13 @@ impl<T: Table> AddCat<T> {
         AddCat { table }
     }
 
+    /// The table that it was made of.
+    pub fn table(&self) -> &T
+        ensures { result.now ≡ self.now.table }
+    {
+        &self.table
+    }
+
     /// The list of these objects of the table.
     pub fn object(&self, parts: Vec<u32>) -> AddObj
         requires few { length parts.items ≤ 2048 }
