@@ -35,6 +35,13 @@ impl<T: Table> AddCat<T> {
         AddCat { table }
     }
 
+    /// The table that it was made of.
+    pub fn table(&self) -> &T
+        ensures { result.now ≡ self.now.table }
+    {
+        &self.table
+    }
+
     /// The list of these objects of the table.
     pub fn object(&self, parts: Vec<u32>) -> AddObj
         requires few { length parts.items ≤ 2048 }
@@ -63,6 +70,15 @@ impl<T: Table> AddCat<T> {
             return Err(Shape { part: k + 1 });
         }
         Ok(AddMor::new(a, b, entries))
+    }
+
+    /// The matrix from a to b with these entries, row by row, which are known to be one. Nothing is tested.
+    pub fn known_morphism(&self, a: AddObj, b: AddObj, entries: Vec<Items<u16>>) -> AddMor
+        requires matrix { IsMorphismMatrix (T.table self.now.table) (record { from = a; to = b; entries = entries.items }) }
+        requires few { length (joined entries.items) ≤ 1048576 }
+        ensures { result ≡ record { from = a; to = b; entries = entries.items } }
+    {
+        AddMor::new(a, b, entries)
     }
 }
 

@@ -50,12 +50,27 @@ impl AddMor {
     }
 
     /// The coefficients of all entries, row by row.
-    pub(crate) fn entries(&self) -> &[Items<u16>]
+    pub fn entries(&self) -> &[Items<u16>]
         ensures value { result.now ≡ self.now.entries }
         ensures many { length self.now.entries ≡ length self.now.from * length self.now.to }
         ensures few { length (joined self.now.entries) ≤ 1048576 }
     {
         &self.entries
+    }
+
+    /// The coefficients of all entries, row by row, without a copy: at most 2,048 by 2,048 entries.
+    pub fn into_entries(self) -> Vec<Items<u16>>
+        ensures value { result.items ≡ self.entries }
+        ensures many { length self.entries ≤ 4194304 }
+        ensures few { length (joined self.entries) ≤ 1048576 }
+    {
+        self.limits();
+        let AddMor {
+            from: _,
+            to: _,
+            entries,
+        } = self;
+        entries
     }
 
     /// Every matrix keeps the limits.
