@@ -18,4 +18,5 @@ mod two_sided;
 pub use category::AddCat;
 pub use morphism::AddMor;
 pub use object::AddObj;
-pub use shape::Shape;
+pub use shape::{Shape, first_wrong};
+pub use sizes::checked as count_within_limits;

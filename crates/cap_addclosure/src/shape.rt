@@ -16,7 +16,7 @@ pub struct Shape {
 }
 
 /// The first entry with a wrong number of coefficients, from 0.
-pub(crate) fn first_wrong<T: Table>(
+pub fn first_wrong<T: Table>(
     table: &T,
     a: &[u32],
     b: &[u32],

@@ -40,7 +40,7 @@ fn fits(rows: usize, cols: usize, cells: u32) -> bool
 }
 
 /// The number of coefficients, where a matrix from a to b keeps the limits.
-pub(crate) fn checked<T: Table>(table: &T, a: &[u32], b: &[u32]) -> Result<u32, CatFault>
+pub fn checked<T: Table>(table: &T, a: &[u32], b: &[u32]) -> Result<u32, CatFault>
     requires from { AreObjects (T.table table.now) a.now }
     requires to { AreObjects (T.table table.now) b.now }
     requires short { length a.now ≤ 4096 }

@@ -1,1 +1,4 @@
+pub mod OfClosures
+pub mod ReadsClosures
 pub mod OfFreyd
+pub mod ReadsFreyd

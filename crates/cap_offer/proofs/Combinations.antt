@@ -2,22 +2,24 @@
 use Rattle.std.proofs.Common.{◌≡◌, ◌≢◌, ◌⊎◌, ℕ, suc, ◌+◌, ◌*◌, ◌/◌, ◌%◌, ◌<◌, ◌≤◌, ℤ, pos, List, [], length, map, get_or, refl, sym, ap, ◌∙◌, subst, arith, inl, inr, ⊎_elim}
 use Rattle.std.specs.Prelude.{Some}
 use Rattle.std.specs.List.{All}
+use Rattle.std.proofs.lemmas.Bool.{cases_eq}
 use Rattle.std.proofs.lemmas.Nat.{div_below, mod_below, mul-add-lt}
 use Rattle.std.proofs.Math.Nat.{div-add-mod'}
-use Rattle.std.proofs.lemmas.List.{length-map, get_or-map}
+use Rattle.std.proofs.lemmas.List.{length-map, get_or-map, ext_get_or}
 use Rattle.std.proofs.lemmas.List.Elements.{All-get_or}
 use Rattle.std.proofs.lemmas.Option.{slice_get-get_or}
 use Rattle.cap_field.specs.Residue.{IsResidueOf}
-use Rattle.cap_field.proofs.Remainders.{residue_is}
+use Rattle.cap_field.proofs.Remainders.{residue_is, residue_unique}
 use Rattle.cap_matrix.proofs.Writes.{some_below}
+use Rattle.cap_homlaw.proofs.Rows.{row_ext}
 use Rattle.cap_ops.proofs.DerivationsBounds.{lt_or_le}
 use Rattle.cap_names.specs.declared.literals.EntryLit.{EntryLit}
 use Rattle.cap_names.specs.declared.literals.EntryLit.TheVariants.{Int, Coeffs}
 use Rattle.cap_names.specs.declared.literals.MatLit.{MatLit}
 use Rattle.cap_laws.specs.Answers.{Size, Fits}
-use Rattle.cap_laws.specs.Table.{TableData, IsRow, width_of}
+use Rattle.cap_laws.specs.Table.{TableData, width_of}
 use Rattle.cap_data.specs.declared.data.MorData.TheVariants.{Entries}
-use Rattle.cap_add_laws.specs.Closure.{widths_of}
+use Rattle.cap_add_laws.specs.Closure.{AreObjects, IsMorphismMatrix, widths_of}
 use Rattle.cap_add_laws.proofs.Structure.{width-at}
 use Rattle.cap_addclosure.proofs.OneElement.{width-of-place}
 use Rattle.cap_addclosure.specs.Shapes.{HasWidth, HasWidths, IsFirstWrong}
@@ -25,6 +27,7 @@ use Rattle.cap_addclosure.specs.Sizes.{closure_size}
 use Rattle.cap_offer.proofs.Cells.{length-mapped, mapped-at, no-places, no-place}
 use Rattle.cap_offer.specs.Combinations.{residue_in, residues_of_entry, lists_of}
 use Rattle.cap_offer.specs.Literals.{IsCoefficients, HasCoefficients, HasSize, IsLeast, IsGiven, StandAt, IsWrongEntry, AreResiduesOf, AreResiduesAt, AreEntriesOfLiteral, entries_literal}
+use Rattle.cap_offer.specs.Laws.{ReadsOnce}
 
 -- an entry that is coefficients
 pub record AreCoefficients (p : ℕ) (e : EntryLit) : Type 0 where
@@ -130,12 +133,44 @@ module _ (T : TableData) (xs ys : List ℕ) (m : MatLit) (entries : List (List �
     reads = (entries, refl, A);
   }
 
-  -- each entry is a row over the basis of its Hom
-  pub entry-row : HasWidths T xs ys entries (length entries) → (i j : ℕ) → i < length xs → j < length ys → IsRow T (get_or xs i 0) (get_or ys j 0) (get_or entries (i * length ys + j) [])
-  entry-row widths i j row column =
+-- the entries that a literal stands for are one list
+one-list : (p : ℕ) (cs ds : List ℤ) (xs ys : List ℕ) → cs ≡ ds → AreResiduesOf p cs xs → AreResiduesOf p ds ys → xs ≡ ys
+one-list p cs ds xs ys e X Y =
+    let X' : AreResiduesOf p ds xs = subst (λ zs. AreResiduesOf p zs xs) e X in
+    row_ext X'.many Y.many (λ k lt. residue_unique p (get_or ds k (pos 0)) (get_or xs k 0) (get_or ys k 0) (X'.each k lt) (Y.each k lt))
+
+pub entries-once : (T : TableData) (xs ys : List ℕ) (m : MatLit) → ReadsOnce (entries_literal T xs ys m)
+entries-once T xs ys m x y h k = h.1 ∙ ap (λ es. Entries es) (same h.0 k.0 h.2 k.2) ∙ sym k.1
+  where
+    same : (es fs : List (List ℕ)) → AreEntriesOfLiteral T.prime (length xs) (length ys) m es → AreEntriesOfLiteral T.prime (length xs) (length ys) m fs → es ≡ fs
+    same es fs A B = ext_get_or [] es fs (A.many ∙ sym B.many) (λ k inside.
+        let n = length ys in
+        let lt : k < length xs * n = subst (λ q. k < q) A.many inside in
+        let some : 0 < n = some_below k (length xs) n lt in
+        let row : k / n < length xs = div_below k (length xs) n some lt in
+        let column : k % n < n = mod_below k n some in
+        let place : k / n * n + k % n ≡ k = sym (div-add-mod' k n) in
+        let a = A.each (k / n) (k % n) row column in
+        let b = B.each (k / n) (k % n) row column in
+        ap (λ q. get_or es q []) (sym place) ∙ one-list T.prime a.coefficients b.coefficients _ _ (same-coefficients m (k / n) (k % n) a.coefficients b.coefficients a.stand b.stand) a.are b.are ∙ ap (λ q. get_or fs q []) place)
+
+-- and, none of them being wrong, those of a matrix of combinations
+pub matrix-of-entries : (T : TableData) (xs ys : List ℕ) (m : MatLit) (entries : List (List ℕ)) → AreObjects T xs → AreObjects T ys → AreEntriesOfLiteral T.prime (length xs) (length ys) m entries
+    → ((part : ℕ) → IsWrongEntry T xs ys m part → ⊥) → IsMorphismMatrix T (record { from = xs; to = ys; entries = entries })
+matrix-of-entries T xs ys m entries X Y A right = record {
+  from = X;
+  to = Y;
+  many = A.many;
+  rows = λ i j row column.
       let at = A.each i j row column in
-      let k = i * length ys + j in
       record {
-        long = widths k (subst (λ n. k < n) (sym A.many) (place-inside i j (length xs) (length ys) row column)) ∙ width-of-place T xs ys i j row column;
+        long = at.are.many ∙ width i j row column at.coefficients at.stand;
         residues = λ c lt. (at.are.each c (subst (λ n. c < n) at.are.many lt)).below;
-      }
+      };
+}
+  where
+    width : (i j : ℕ) → i < length xs → j < length ys → (cs : List ℤ) → StandAt m i j cs → length cs ≡ width_of T (get_or xs i 0) (get_or ys j 0)
+    width i j row column cs stand = ⊎_elim
+        (λ (e : length cs ≡ width_of T (get_or xs i 0) (get_or ys j 0)). e)
+        (λ ne. absurd (right (suc (i * length ys + j)) (record { row = i; column = j; above = row; beside = column; number = refl; coefficients = cs; stand = stand; wrong = ne })))
+        (cases_eq (length cs) (width_of T (get_or xs i 0) (get_or ys j 0)))

@@ -1,5 +1,5 @@
 // A category of any kind.
-ghost use Rattle.std.specs.Prelude.{◌≡◌, IfOk};
+ghost use Rattle.std.specs.Prelude.{◌≡◌, IfOk, option_map};
 ghost use Rattle.cap_primitives.specs.Given.{from_to};
 ghost use Rattle.cap_ops.specs.Told.{IsArrow};
 
@@ -10,7 +10,7 @@ use crate::objects::{read_dimension, read_list};
 use cap_add_offer::ListOffer;
 use cap_data::{MorData, ObjData};
 use cap_field::Field;
-use cap_laws::CatFault;
+use cap_laws::{CatFault, Table};
 use cap_lincat::LinTable;
 use cap_names::{MorLit, NoMemory, ObjLit, OpId};
 use cap_ops::{Arg, Kind, Objects, Offer, PrimOut};
@@ -52,10 +52,9 @@ impl AnyCat {
         field: Field,
         table: Option<&LinTable>,
     ) -> Result<AnyCat, NoMemory>
-        requires { HasTable kind field table.now }
-        ensures { IfOk result (λ c. IsOver kind field table.now c) }
+        requires { HasTable kind field (option_map (λ t. ⟦<LinTable as Table>⟧.table t.now) table) }
+        ensures { IfOk result (λ c. IsOver kind field (option_map (λ t. ⟦<LinTable as Table>⟧.table t.now) table) c) }
     {
-        let _ = field.prime();
         match (kind, table) {
             (Kind::Mat, None) => Ok(AnyCat {
                 over: Over::Matrices(VecOffer::new(field)),

@@ -3,7 +3,7 @@ ghost use Rattle.std.specs.Prelude.{◌≡◌, ◌++◌, ◌≤◌, IfOk, map, l
 ghost use Rattle.std.specs.List.{All};
 ghost use Rattle.cap_add_laws.specs.Closure.{AreObjects};
 ghost use Rattle.cap_encoded.specs.OfClosures.{read_list};
-ghost use Rattle.cap_offer.specs.Combinations.{residues_of_entry, lists_of};
+ghost use Rattle.cap_offer.specs.Combinations.{residue_in, residues_of_entry, lists_of};
 ghost use Rattle.cap_offer.specs.Literals.{IsCoefficients, HasCoefficients, HasEntries, Gives, entries_literal, entries_between};
 
 use crate::faults::LitFault;
@@ -16,19 +16,31 @@ use cap_lincat::LinTable;
 use cap_names::{EntryLit, Items, MatLit, MorLit, NoMemory, TooLarge};
 use std::alloc::Global;
 
+/// The residue of an integer.
+fn residue(field: Field, n: i64) -> u16
+    ensures { result ≡ residue_in field n }
+{
+    field.residue(n)
+}
+
+/// The residues of coefficients.
+fn residues(alloc: Global, field: Field, coefficients: &[i64]) -> Result<Items<u16>, NoMemory>
+    ensures { IfOk result (λ row. row ≡ map (residue_in field) coefficients.now) }
+{
+    let mut row = Vec::new(alloc);
+    for n in coefficients {
+        row.push(residue(field, *n))?;
+    }
+    Ok(Items::new(row))
+}
+
 /// The residues of an entry's coefficients.
-fn residues(alloc: Global, field: Field, entry: &EntryLit) -> Result<Items<u16>, NoMemory>
+fn entry_residues(alloc: Global, field: Field, entry: &EntryLit) -> Result<Items<u16>, NoMemory>
     requires { IsCoefficients entry.now }
     ensures { IfOk result (λ row. row ≡ residues_of_entry field entry.now) }
 {
     match entry {
-        EntryLit::Coeffs(coefficients) => {
-            let mut row = Vec::new(alloc);
-            for n in coefficients.as_slice() {
-                row.push(field.residue(*n))?;
-            }
-            Ok(Items::new(row))
-        }
+        EntryLit::Coeffs(coefficients) => residues(alloc, field, coefficients.as_slice()),
         EntryLit::Int(_) => unreachable!(),
     }
 }
@@ -44,7 +56,7 @@ fn put_row(
     ensures { IfOk result (λ _. entries.new.items ≡ entries.old.items ++ map (residues_of_entry field) row.now) }
 {
     for entry in row {
-        entries.push(residues(alloc, field, entry)?)?;
+        entries.push(entry_residues(alloc, field, entry)?)?;
     }
     Ok(())
 }

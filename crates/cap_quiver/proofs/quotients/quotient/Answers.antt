@@ -273,6 +273,6 @@ returns c =
     let U = subst (λ x. AreUnitRows A N.column_count e x units o) c.as_slice-3.ensures c.in_ok-units.ensures in
     let P = subst (λ x. AreProductRows A N.column_count e x bs products (length bs * length bs)) c.as_slice-4.ensures
     (subst (λ x. AreProductRows A N.column_count e c.as_slice-4.result.now x products (length x * length x)) c.as_slice-5.ensures.value c.in_ok-products.ensures) in
-    subst (λ t. IsQuotientOf p A R number bs t) (sym c.from_valid-table.ensures)
+    subst (λ t. IsQuotientOf p A R number bs t) (sym c.from_valid-table.ensures.table)
     (subst (λ n. IsQuotientOf p A R number bs (table_of p n c.new-elements.result units products)) (sym c.objects-objects.ensures.value)
     (subst (λ b. IsQuotientOf p A R number bs (table_of p o b units products)) (sym c.new-elements.ensures) (table-quotient p A R number J N bs ends units products homs c.prime.ensures.tabled c.requires.algebra S B long L E H U P)))
