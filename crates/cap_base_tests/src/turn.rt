@@ -1,7 +1,7 @@
 ghost use Rattle.std.specs.Prelude.{◌≤◌, length};
 
-use cap_turn::{Logged, Turn};
 use cap_names::NoMemory;
+use cap_turn::{Logged, Turn};
 use std::alloc::Global;
 use std::test::Fail;
 

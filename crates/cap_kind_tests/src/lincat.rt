@@ -1,6 +1,6 @@
 // Worked examples.
-use cap_lincat::{BadTable, LinTable, ProductRow, Table, TableFault, TableParts};
 use cap_field::Field;
+use cap_lincat::{BadTable, LinTable, ProductRow, Table, TableFault, TableParts};
 use cap_names::Items;
 use std::alloc::{AllocError, Global};
 use std::test::Fail;

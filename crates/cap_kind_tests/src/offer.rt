@@ -2,10 +2,10 @@
 mod calls;
 mod rooms;
 
-use cap_offer::LitFault;
 use calls::{assert_gives, assert_too_large, congruent};
 use cap_data::MorData;
 use cap_names::TooLarge;
+use cap_offer::LitFault;
 use cap_ops::operations::{
     ADD, COKERNEL, COLIFT, COMPOSE, DIRECT_SUM, IDENTITY, KERNEL, LIFT, PULLBACK, PUSHOUT, SCALE,
     ZERO, ZERO_OBJECT,

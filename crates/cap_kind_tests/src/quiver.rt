@@ -1,7 +1,7 @@
 // Quivers with known algebras, and what is refused.
-use cap_quiver::{BadQuiver, PathTable, Quiver, QuiverFault, Relation};
 use cap_field::Field;
 use cap_names::Items;
+use cap_quiver::{BadQuiver, PathTable, Quiver, QuiverFault, Relation};
 use std::alloc::{AllocError, Global};
 use std::test::Fail;
 

@@ -3,7 +3,6 @@ ghost use Rattle.std.specs.Prelude.{◌≡◌, IfOk};
 ghost use Rattle.cap_matrix.specs.Grid.{IsMatrix};
 ghost use Rattle.cap_laws.specs.Systems.{IsSystem, term_system};
 
-use cap_vec::{VecCat, VecMor};
 use cap_field::Field;
 use cap_laws::{
     Abelian, Additive, Cat, CatFault, Equation, Lifts, Preadditive, System, Term, WeakCokernels,
@@ -11,6 +10,7 @@ use cap_laws::{
 };
 use cap_matrix::Matrix;
 use cap_names::Items;
+use cap_vec::{VecCat, VecMor};
 use std::alloc::Global;
 use std::process::Abort;
 use std::test::Fail;

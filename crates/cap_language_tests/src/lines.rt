@@ -1,7 +1,7 @@
 //! A text with empty lines and without a last LF.
 
-use cap_lines::{place_node, position, whole_lines};
 use cap_grammar::{Fixed, Place, Symbol};
+use cap_lines::{place_node, position, whole_lines};
 
 const NEWLINE: Symbol = Symbol::Fixed(Fixed::Newline);
 

@@ -1,8 +1,8 @@
 // Literals with one byte for each symbol.
+use cap_grammar::{Fixed, ObjTok, Symbol};
 use cap_literals::{
     arg_of, combo_of, int_of, list_of, morphism_of, object_of, path_of, ref_of, rows_of, sum_of,
 };
-use cap_grammar::{Fixed, ObjTok, Symbol};
 use cap_names::{Items, Name};
 use cap_reading::ReadError;
 use std::alloc::{AllocFailed, Global};

@@ -1,8 +1,8 @@
 //! Scripts of symbols, and where reading them fails.
 
-use cap_parser::{ScriptFault, read_script};
 use cap_grammar::{Command, Fixed, Item, Over, Place, Symbol};
 use cap_names::{Name, OpId};
+use cap_parser::{ScriptFault, read_script};
 use std::alloc::{AllocError, Global};
 use std::process::Abort;
 

@@ -1,10 +1,10 @@
 // What no clause says: printed text as a user would write it, and that the call succeeds where there is memory.
-use cap_printer::print;
 use cap_grammar::{
     ArgTok, Block, BlockLine, Command, EntryTok, IntTok, Item, MorTok, ObjTok, Over, Placed,
     RefTok, RowsTok, Script, SessionPart, TermTok,
 };
 use cap_names::{Items, Name, OpId};
+use cap_printer::print;
 use std::alloc::{AllocError, Global};
 use std::process::Abort;
 use std::test::Fail;

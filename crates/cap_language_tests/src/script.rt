@@ -1,6 +1,6 @@
 // What no clause says: worked examples, and that the calls succeed where there is memory.
-use cap_script::{ScriptFault, parse, print};
 use cap_names::Reason;
+use cap_script::{ScriptFault, parse, print};
 use std::alloc::{AllocError, Global};
 use std::process::Abort;
 use std::test::Fail;

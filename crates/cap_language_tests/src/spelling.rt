@@ -1,10 +1,10 @@
 // That the call succeeds where there is memory, and what a user would write: a number 0 and an empty combination are both `0`.
-use cap_spelling::symbols_of;
 use cap_grammar::{
     Block, BlockLine, Command, Fixed, IntTok, Item, MorTok, ObjTok, Placed, Script, SessionPart,
     Symbol, TermTok,
 };
 use cap_names::{Items, Name};
+use cap_spelling::symbols_of;
 use std::alloc::Global;
 use std::process::Abort;
 use std::test::Fail;

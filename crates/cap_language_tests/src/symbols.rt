@@ -1,7 +1,7 @@
 // What no clause says: worked examples, and that the call succeeds where there is memory.
-use cap_symbols::symbols;
 use cap_grammar::Symbol;
 use cap_names::OpId;
+use cap_symbols::symbols;
 use std::alloc::{AllocError, Global};
 use std::process::Abort;
 use std::test::Fail;

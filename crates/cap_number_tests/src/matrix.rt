@@ -1,5 +1,5 @@
-use cap_matrix::{Matrix, MatrixFault, TooLarge};
 use cap_field::Field;
+use cap_matrix::{Matrix, MatrixFault, TooLarge};
 use std::alloc::Global;
 use std::process::Abort;
 use std::test::Fail;

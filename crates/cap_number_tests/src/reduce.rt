@@ -1,11 +1,11 @@
 // Worked examples.
 ghost use Rattle.std.specs.Prelude.{◌≡◌};
 
+use cap_field::Field;
+use cap_matrix::{Matrix, MatrixFault, TooLarge};
 use cap_reduce::{
     Items, Solved, SolvedRows, greedy, null_rows, reduce_in_place, rref, solve, solve_rows,
 };
-use cap_field::Field;
-use cap_matrix::{Matrix, MatrixFault, TooLarge};
 use std::alloc::{AllocError, Global};
 use std::process::Abort;
 use std::test::Fail;

@@ -10,7 +10,6 @@ use bounds::least_bounds;
 use cap_ops::{Choice, Kind, Plan, Regs, RuleCost};
 use choices::choice_of;
 
-
 /// The plan of least weights for these registrations, rules and kind. Ties go to the primitive, then to the first rule.
 pub fn plan(regs: &Regs, costs: &[RuleCost], kind: Kind) -> Plan
     requires { ArePlannable regs.now.weights costs.now }

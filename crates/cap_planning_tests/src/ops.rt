@@ -3,9 +3,9 @@ ghost use Rattle.std.specs.Prelude.{◌≡◌};
 ghost use Rattle.cap_ops.specs.declared.sorts.Sort.TheVariants.{Mor as MorSort};
 ghost use Rattle.cap_ops.specs.Mismatches.{sort_of_argument};
 
+use cap_names::Handle;
 use cap_ops::operations::{COMPOSE, DIRECT_SUM, KERNEL_MAP, PAIR, SCALE};
 use cap_ops::{Arg, Arrow, Mismatch, ends_fit};
-use cap_names::Handle;
 use std::test::Fail;
 
 fn arrow(src: u32, tgt: u32) -> Arg<u16>

@@ -4,9 +4,9 @@ mod rows;
 ghost use Rattle.std.specs.List.{All};
 ghost use Rattle.cap_ops.specs.Derivations.{IsWeight};
 
-use cap_plan::plan;
 use cap_names::RuleNo;
 use cap_ops::{Choice, Kind, NO_PLAN, Plan, Regs};
+use cap_plan::plan;
 use rows::costs;
 
 /// The first operations, and kernels and lifts at 20: numbers of operations with their weights.

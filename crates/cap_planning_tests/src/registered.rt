@@ -1,7 +1,7 @@
 // What no clause says: worked examples of whole certificates from the bytes of a script, and that the call succeeds where there is memory.
 
-use cap_registered::certificates;
 use cap_check::check;
+use cap_registered::certificates;
 use cap_script::parse;
 use std::alloc::{AllocError, Global};
 use std::process::Abort;

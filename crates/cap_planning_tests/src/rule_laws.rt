@@ -1,6 +1,6 @@
 // The soundness of the rules at concrete categories: the residues modulo a prime, and the category with one morphism between any two objects.
-use cap_rule_laws::laws::{law_meanings_fit, sound_abelian, sound_linear};
 use cap_laws::examples::{NullCategory, Scalars};
+use cap_rule_laws::laws::{law_meanings_fit, sound_abelian, sound_linear};
 
 #[test]
 fn soundness_is_taken_by_calls(_rt: HostRuntime) {

@@ -1,7 +1,7 @@
 // The rules in print.
-use cap_rules::{costs, rules};
 use cap_names::RuleNo;
 use cap_ops::operations::{COMPOSE, KERNEL};
+use cap_rules::{costs, rules};
 use cap_terms::{Rule, Step, Var, check_term, multiplicity};
 use std::alloc::{AllocError, Global};
 use std::test::Fail;

@@ -1,10 +1,10 @@
 // Bodies that are typed and bodies that are not.
-use cap_terms::{BadStep, Body, Step, Var, check_term, multiplicity};
 use cap_names::{Items, OpId};
 use cap_ops::operations::{
     ADD, COKERNEL, COMPOSE, DIRECT_SUM, IDENTITY, IS_CONGRUENT, IS_ISO, IS_MONO, IS_ZERO, KERNEL,
     NEGATE, PRODUCT, PULLBACK, SCALE, SUBTRACT,
 };
+use cap_terms::{BadStep, Body, Step, Var, check_term, multiplicity};
 use std::alloc::{AllocFailed, Global};
 use std::test::Fail;
 

@@ -2,9 +2,9 @@
 ghost use Rattle.cap_settle.specs.Settled.{OutFits};
 ghost use Rattle.std.specs.Prelude.{IfOk};
 
-use cap_settle::settle;
 use cap_names::{Handle, Items, NoMemory};
 use cap_ops::{Datum, End, Out, OutArrow, Value};
+use cap_settle::settle;
 use std::alloc::Global;
 use std::test::Fail;
 

@@ -1,4 +1,3 @@
-use cap_shares::{SessionSeat, SharedCategory};
 use cap_desk::{Ledger, OwnDesk};
 use cap_field::Field;
 use cap_history::{Event, Reply};
@@ -6,6 +5,7 @@ use cap_names::SessionNo;
 use cap_offer::AnyCat;
 use cap_ops::Kind;
 use cap_seat::Seat;
+use cap_shares::{SessionSeat, SharedCategory};
 use std::test::Fail;
 
 #[test]

@@ -1,7 +1,7 @@
 // Slots and results.
-use cap_steps::{Slot, copy_at, out_of_slot, parameters, plain_step, slot_of_value};
 use cap_names::{Handle, Items, NoMemory};
 use cap_ops::{Arg, Arrow, Datum, Out, Value};
+use cap_steps::{Slot, copy_at, out_of_slot, parameters, plain_step, slot_of_value};
 use cap_terms::{Step, Var};
 use std::alloc::Global;
 use std::test::Fail;

@@ -3,12 +3,12 @@ ghost use Rattle.std.specs.Prelude.{◌≤◌, IfOk, IfSome};
 ghost use Rattle.cap_ops.specs.Ends.{IsOperation};
 ghost use Rattle.cap_store.specs.Tested.{IsAlways, IsOnceFinal};
 
-use cap_store::{CatState, EnterRefusal, StepRefusal};
 use cap_history::{Event, Reply, Told};
 use cap_names::{Handle, Items, Name, NoMemory, OpId, SessionNo};
 use cap_ops::operations::{COKERNEL, KERNEL, LIFT};
 use cap_ops::{Arg, Arrow, Choice, Datum, End, Key, Kind, Out, OutArrow, PrimOut, Regs, Value};
 use cap_rules::costs;
+use cap_store::{CatState, EnterRefusal, StepRefusal};
 use std::alloc::Global;
 use std::test::Fail;
 

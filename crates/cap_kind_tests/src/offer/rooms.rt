@@ -9,10 +9,10 @@ ghost use Rattle.cap_ops.specs.declared.plans.Kind.TheVariants.{Mat};
 ghost use Rattle.cap_offer.specs.Labels.{kind_of, any_offer};
 ghost use Rattle.cap_offer.specs.Literals.{IsInteger, HasIntegers};
 
-use cap_offer::{AnyCat, LitFault};
 use cap_data::{MorData, ObjData};
 use cap_field::Field;
 use cap_names::{EntryLit, Handle, Items, MatLit, MorLit, ObjLit};
+use cap_offer::{AnyCat, LitFault};
 use cap_ops::{Arg, Arrow, Kind, Objects, Offer};
 use std::alloc::Global;
 use std::process::Abort;
