@@ -8,6 +8,7 @@ use Rattle.cap_ops.specs.Offered.{offered_by_all, offered_besides, offered_weigh
 use Rattle.cap_ops.proofs.Places.{none≢some, some_inner}
 use Rattle.cap_vec_offer.specs.Members.{offer_weights}
 use Rattle.cap_add_offer.specs.Members.{list_weights}
+use Rattle.cap_lincat.specs.Tables.{table_in}
 use Rattle.cap_offer.specs.Labels.{Label, vec, add, any_offer}
 use Rattle.cap_session_lines.specs.Doing.{HasWeights}
 
@@ -53,7 +54,7 @@ kind-ranged w offered same ranged op n e = ranged op n (sym (ap (λ (v : ℕ →
 
 ranged : (x : Label) (op n : ℕ) → (any_offer x).weight op ≡ Some n → IsRanged n
 ranged (vec p) = kind-ranged (any_offer (vec p)).weight (offered_weight Mat) (offer_weights p) (weight-ranged (offered_by_all ++ offered_besides Mat) matrices-ranged)
-ranged (add V) = kind-ranged (any_offer (add V)).weight (offered_weight Add) (list_weights V.table) (weight-ranged (offered_by_all ++ offered_besides Add) lists-ranged)
+ranged (add V) = kind-ranged (any_offer (add V)).weight (offered_weight Add) (list_weights (table_in V)) (weight-ranged (offered_by_all ++ offered_besides Add) lists-ranged)
 
 pub has_weights : (x : Label) → HasWeights (any_offer x)
 has_weights x = record { from = λ op n e. (ranged x op n e).0; to = λ op n e. (ranged x op n e).1 }

@@ -2,4 +2,4 @@ pub mod Offers
 pub mod Cells
 pub mod Literals
 pub mod Known
-pub mod Combinations
+pub mod EntryLiterals

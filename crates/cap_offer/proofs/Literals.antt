@@ -18,7 +18,8 @@ use Rattle.cap_data.specs.declared.data.ObjData.{ObjData}
 use Rattle.cap_data.specs.declared.data.MorData.TheVariants.{Mat}
 use Rattle.cap_laws.specs.Table.{TableData}
 use Rattle.cap_encoded.specs.OfClosures.{read_list}
-use Rattle.cap_offer.proofs.Combinations.{entries-once}
+use Rattle.cap_lincat.specs.Tables.{table_in}
+use Rattle.cap_offer.proofs.EntryLiterals.{entries-once}
 use Rattle.cap_offer.specs.Labels.{Label, vec, add}
 use Rattle.cap_offer.proofs.Cells.{AreCells, matrix-of-literal}
 use Rattle.cap_offer.specs.Literals.{HasSize, IsGiven, IsResidueAt, IsMatrixOfLiteral, matrix_literal, object_literal, morphism_literal, matrix_between, entries_between}
@@ -52,7 +53,7 @@ objects-once (add V) lit = λ x y h k. h ∙ sym k
 
 morphisms-once : (l : Label) (a b : ObjData) (lit : MorLit) → ReadsOnce (morphism_literal l a b lit)
 morphisms-once (vec p) a b lit = between-once p a b lit
-morphisms-once (add V) a b lit = entries-between-once V.table a b lit
+morphisms-once (add V) a b lit = entries-between-once (table_in V) a b lit
 
 pub literals_are_one : LiteralsAreOne
 literals_are_one = record { objects = objects-once; morphisms = morphisms-once }

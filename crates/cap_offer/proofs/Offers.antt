@@ -14,6 +14,8 @@ use Rattle.cap_names.specs.declared.literals.ObjLit.{ObjLit}
 use Rattle.cap_names.specs.declared.literals.ObjLit.TheVariants as literal
 use Rattle.cap_names.specs.declared.literals.MorLit.{MorLit}
 use Rattle.cap_names.specs.declared.literals.MorLit.TheVariants as morphisms
+use Rattle.cap_lincat.specs.Tables.{table_in}
+use Rattle.cap_lincat.specs.declared.table.LinTable.{LinTable}
 use Rattle.cap_offer.specs.declared.faults.LitFault.{LitFault}
 use Rattle.cap_offer.specs.Literals.{HasIntegers, HasObjectForm, HasMorphismForm, IsList, IsGiven, Gives, list_of, object_literal, morphism_literal}
 use Rattle.cap_laws.specs.Table.{TableData}
@@ -22,7 +24,7 @@ use Rattle.cap_encoded.specs.OfClosures.{read_list}
 use Rattle.cap_add_offer.specs.Members.{list_kind, list_weights, list_prime}
 use Rattle.cap_add_offer.proofs.Canonical as answers
 use Rattle.cap_add_offer.proofs.Data as lists
-use Rattle.cap_offer.proofs.Combinations.{matrix-of-entries}
+use Rattle.cap_offer.proofs.EntryLiterals.{matrix-of-entries}
 use Rattle.cap_vec_offer.specs.Members.{offer_kind, offer_weights, offer_prime, offer_abelian}
 use Rattle.cap_vec_offer.proofs.Canonical.{canonical}
 use Rattle.cap_vec_offer.proofs.Data.{objects_are, morphisms_are}
@@ -31,7 +33,7 @@ use Rattle.cap_offer.specs.Laws.{IsTabled, IsOfferOf, AreOneOffer, OfferGoesByLa
 
 is_offer_of : (l : Label) → IsOfferOf l
 is_offer_of (vec p) = record { kind = offer_kind p; weights = offer_weights p; prime = offer_prime p }
-is_offer_of (add V) = record { kind = list_kind V.table; weights = list_weights V.table; prime = λ t. list_prime V.table }
+is_offer_of (add V) = record { kind = list_kind (table_in V); weights = list_weights (table_in V); prime = λ t. list_prime (table_in V) }
 
 one_offer : (l : Label) → AreOneOffer l l
 one_offer l = record { kind = refl; weights = refl; objects = λ a o. o; answers = λ op args v x. x; fresh = refl; large = λ op args rows columns x. x }
@@ -41,11 +43,11 @@ goes_by_label = record { is = is_offer_of; same = λ l m e. subst (λ x. AreOneO
 
 pub rules_hold : RulesHold
 rules_hold (vec p) = inr (offer_abelian p)
-rules_hold (add V) = inl (list_kind V.table)
+rules_hold (add V) = inl (list_kind (table_in V))
 
 pub are_canonical : AnswersAreCanonical
 are_canonical (vec p) t op args v fits answer = canonical p t op args v fits answer
-are_canonical (add V) t op args v fits answer = answers.canonical V.table op args v answer
+are_canonical (add V) t op args v fits answer = answers.canonical (table_in V) op args v answer
 
 -- in categories of matrices dimensions are objects, and a literal of integers has the form of a morphism
 pub dimension-object : (l : Label) → kind_of l ≡ Mat → (n : ℕ) (x : ObjData) → x ≡ Dim n → (any_offer l).category.is_object x
@@ -82,7 +84,7 @@ literal-arrow (vec p) a b (morphisms.Rows w) m t A B given =
     })
 literal-arrow (vec p) a b (morphisms.Parts ws) m t A B given = absurd given.reads
 literal-arrow (add V) a b (morphisms.Rows w) m t A B given =
-    let T = V.table in
+    let T = (table_in V) in
     let from = (lists.objects_are T a).0 A in
     let to = (lists.objects_are T b).0 B in
     (lists.morphisms_are T (from_to a b m)).1 (record {
@@ -102,7 +104,7 @@ answer-arrow l a b lit (Err e) t A B given = tt
 -- what an object literal of the kind's form stands for is an object
 pub literal-object : (l : Label) (lit : ObjLit) (x : ObjData) → HasObjectForm l lit → (object_literal l lit).reads x → (any_offer l).category.is_object x
 literal-object (vec p) lit x form e = dimension-object (vec p) refl _ x e
-literal-object (add V) lit x form e = (lists.objects_are V.table x).1 (list_of lit, e, list-objects V.table.objects lit form V.table refl)
+literal-object (add V) lit x form e = (lists.objects_are (table_in V) x).1 (list_of lit, e, list-objects V.objects lit form (table_in V) refl)
   where
     list-objects : (objects : ℕ) (lit : ObjLit) → IsList objects lit → (T : TableData) → T.objects ≡ objects → AreObjects T (list_of lit)
     list-objects objects (literal.Parts parts) is T e = record { each = λ i lt. subst (λ n. get_or parts i 0 < n) (sym e) (All-get_or (λ x. x < objects) parts i 0 lt is.1) }
@@ -113,3 +115,12 @@ literal-object (add V) lit x form e = (lists.objects_are V.table x).1 (list_of l
 pub answer-object : (l : Label) (lit : ObjLit) (r : Result ObjData LitFault) → HasObjectForm l lit → Gives (object_literal l lit) r → IfOk r (λ x. (any_offer l).category.is_object x)
 answer-object l lit (Ok x) form given = literal-object l lit x form given.reads
 answer-object l lit (Err e) form given = tt
+
+-- the prime of a valid table is one of the table of primes; its closure's objects are lists of its objects
+pub table-tabled : (t : LinTable) → IsTabled (add t)
+table-tabled t = t.valid.linear.prime_tabled
+
+pub table-objects : (l : Label) (t : LinTable) (a : ObjData) → add t ≡ l → (any_offer l).category.is_object a → AreObjects (table_in t) (read_list a)
+table-objects l t a e o =
+    let x = (lists.objects_are (table_in t) a).0 (subst (λ m. (any_offer m).category.is_object a) (sym e) o) in
+    list-of-objects (table_in t) a x.0 x.1 x.2

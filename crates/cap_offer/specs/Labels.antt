@@ -5,7 +5,8 @@ use Rattle.cap_ops.specs.declared.plans.Kind.TheVariants.{Mat, Add}
 use Rattle.cap_ops.specs.Primitives.{OfferData}
 use Rattle.cap_data.specs.declared.data.ObjData.{ObjData}
 use Rattle.cap_data.specs.declared.data.MorData.{MorData}
-use Rattle.cap_lincat.specs.Data.{ValidTable}
+use Rattle.cap_lincat.specs.Tables.{table_in}
+use Rattle.cap_lincat.specs.declared.table.LinTable.{LinTable}
 use Rattle.cap_vec_offer.specs.Offer.{matrix_offer}
 use Rattle.cap_add_offer.specs.Offer.{list_offer}
 use Rattle.cap_offer.specs.declared.any.Over.{Over}
@@ -16,7 +17,7 @@ pub data Label : Type 0 where
   -- matrices over the field of p elements
   vec : ℕ → Label
   -- the additive closure of a table: lists of its objects
-  add : ValidTable → Label
+  add : LinTable → Label
 
 -- the label of what a category is made of
 abbrev pub label_of : Over → Label
@@ -30,8 +31,8 @@ kind_of (add V) = Add
 
 abbrev pub prime_of_label : Label → ℕ
 prime_of_label (vec p) = p
-prime_of_label (add V) = V.table.prime
+prime_of_label (add V) = V.field
 
 abbrev pub any_offer : Label → OfferData ObjData MorData
 any_offer (vec p) = matrix_offer p
-any_offer (add V) = list_offer V.table
+any_offer (add V) = list_offer (table_in V)

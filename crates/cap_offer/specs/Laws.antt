@@ -18,6 +18,7 @@ use Rattle.cap_add_laws.specs.Closure.{closure_data}
 use Rattle.cap_encoded.specs.OfClosures.{closure_reading}
 use Rattle.cap_vec_offer.specs.Canonical as matrices
 use Rattle.cap_add_offer.specs.Canonical as lists
+use Rattle.cap_lincat.specs.Tables.{table_in}
 use Rattle.cap_offer.specs.Labels.{Label, vec, add, kind_of, prime_of_label, any_offer}
 use Rattle.cap_offer.specs.Literals.{Literal, object_literal, morphism_literal}
 
@@ -51,7 +52,7 @@ RulesHold = (l : Label) → ((any_offer l).kind ≡ Add) ⊎ IsAbelian (any_offe
 -- an answer on arguments that fit is the canonical one of the kind
 abbrev pub IsCanonicalIn : Label → ℕ → List (ValueOver ObjData MorData) → ValueOver ObjData MorData → Type 0
 IsCanonicalIn (vec p) op args v = matrices.IsCanonical p op (read_values (vec_data p) matrix_reading args) (read_value (vec_data p) matrix_reading v)
-IsCanonicalIn (add V) op args v = lists.IsCanonical V.table op (read_values (closure_data V.table) closure_reading args) (read_value (closure_data V.table) closure_reading v)
+IsCanonicalIn (add V) op args v = lists.IsCanonical (table_in V) op (read_values (closure_data (table_in V)) closure_reading args) (read_value (closure_data (table_in V)) closure_reading v)
 
 abbrev pub AnswersAreCanonical : Type 0
 AnswersAreCanonical = (l : Label) → IsTabled l → (op : ℕ) (args : List (ValueOver ObjData MorData)) (v : ValueOver ObjData MorData) → Fits (over (prime_of_label l)) op args

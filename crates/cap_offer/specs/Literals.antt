@@ -19,6 +19,7 @@ use Rattle.cap_data.specs.declared.data.MorData.{MorData}
 use Rattle.cap_data.specs.declared.data.MorData.TheVariants.{Mat, Entries}
 use Rattle.cap_data.specs.OfMatrices.{read_dimension}
 use Rattle.cap_encoded.specs.OfClosures.{read_list}
+use Rattle.cap_lincat.specs.Tables.{table_in}
 use Rattle.cap_offer.specs.declared.faults.LitFault.{LitFault}
 use Rattle.cap_offer.specs.declared.faults.LitFault.TheVariants.{Shape, NotAMorphism, NotUnital, NotAFunctor, NotNatural, TooLarge, NoMemory}
 use Rattle.cap_offer.specs.Labels.{Label, vec, add}
@@ -212,7 +213,7 @@ entries_between T a b (morphisms.Parts ms) = of_another_kind
 -- literals of the form that a category's kind asks for
 abbrev pub HasObjectForm : Label → ObjLit → Type 0
 HasObjectForm (vec p) lit = IsDimension lit
-HasObjectForm (add V) lit = IsList V.table.objects lit
+HasObjectForm (add V) lit = IsList V.objects lit
 
 abbrev pub HasMorphismForm : Label → MorLit → Type 0
 HasMorphismForm (vec p) lit = HasMatrix lit
@@ -225,4 +226,4 @@ object_literal (add V) lit = list_literal (list_of lit)
 
 abbrev pub morphism_literal : Label → ObjData → ObjData → MorLit → Literal MorData
 morphism_literal (vec p) a b lit = matrix_between p a b lit
-morphism_literal (add V) a b lit = entries_between V.table a b lit
+morphism_literal (add V) a b lit = entries_between (table_in V) a b lit

@@ -1,5 +1,5 @@
 // A category of any kind.
-ghost use Rattle.std.specs.Prelude.{◌≡◌, IfOk, option_map};
+ghost use Rattle.std.specs.Prelude.{◌≡◌, IfOk};
 ghost use Rattle.cap_primitives.specs.Given.{from_to};
 ghost use Rattle.cap_ops.specs.Told.{IsArrow};
 
@@ -10,7 +10,7 @@ use crate::objects::{read_dimension, read_list};
 use cap_add_offer::ListOffer;
 use cap_data::{MorData, ObjData};
 use cap_field::Field;
-use cap_laws::{CatFault, Table};
+use cap_laws::CatFault;
 use cap_lincat::LinTable;
 use cap_names::{MorLit, NoMemory, ObjLit, OpId};
 use cap_ops::{Arg, Kind, Objects, Offer, PrimOut};
@@ -47,24 +47,21 @@ impl AnyCat {
     /// The category of a kind over a field: of matrices, or the additive closure of a table of that field, which is given exactly there. The kinds of Freyd categories
     /// and of functor categories have none yet.
     pub fn new(
-        alloc: Global,
+        _alloc: Global,
         kind: Kind,
         field: Field,
-        table: Option<&LinTable>,
+        table: Option<LinTable>,
     ) -> Result<AnyCat, NoMemory>
-        requires { HasTable kind field (option_map (λ t. ⟦<LinTable as Table>⟧.table t.now) table) }
-        ensures { IfOk result (λ c. IsOver kind field (option_map (λ t. ⟦<LinTable as Table>⟧.table t.now) table) c) }
+        requires { HasTable kind field table }
+        ensures { IfOk result (λ c. IsOver kind field table c) }
     {
         match (kind, table) {
             (Kind::Mat, None) => Ok(AnyCat {
                 over: Over::Matrices(VecOffer::new(field)),
             }),
-            (Kind::Add, Some(table)) => {
-                let table = table.copy(alloc)?;
-                Ok(AnyCat {
-                    over: Over::Lists(ListOffer::new(table)),
-                })
-            }
+            (Kind::Add, Some(table)) => Ok(AnyCat {
+                over: Over::Lists(ListOffer::new(table)),
+            }),
             _ => unreachable!(),
         }
     }

@@ -9,6 +9,7 @@ use Rattle.std.proofs.lemmas.List.{length-map, get_or-map, ext_get_or}
 use Rattle.std.proofs.lemmas.List.Elements.{All-get_or}
 use Rattle.std.proofs.lemmas.Option.{slice_get-get_or}
 use Rattle.cap_field.specs.Residue.{IsResidueOf}
+use Rattle.cap_field.proofs.Fermat.{tabled_range}
 use Rattle.cap_field.proofs.Remainders.{residue_is, residue_unique}
 use Rattle.cap_matrix.proofs.Writes.{some_below}
 use Rattle.cap_homlaw.proofs.Rows.{row_ext}
@@ -19,6 +20,7 @@ use Rattle.cap_names.specs.declared.literals.MatLit.{MatLit}
 use Rattle.cap_laws.specs.Answers.{Size, Fits}
 use Rattle.cap_laws.specs.Table.{TableData, width_of}
 use Rattle.cap_data.specs.declared.data.MorData.TheVariants.{Entries}
+use Rattle.cap_lincat.specs.declared.table.LinTable.{LinTable}
 use Rattle.cap_add_laws.specs.Closure.{AreObjects, IsMorphismMatrix, widths_of}
 use Rattle.cap_add_laws.proofs.Structure.{width-at}
 use Rattle.cap_addclosure.proofs.OneElement.{width-of-place}
@@ -98,10 +100,10 @@ module _ (T : TableData) (xs ys : List ℕ) (m : MatLit) (entries : List (List �
       let n = length ys in
       let inside : k < length xs * n = subst (λ q. k < q) A.many first.inside in
       let some : 0 < n = some_below k (length xs) n inside in
-      let row : k / n < length xs = div_below k (length xs) n some inside in
+      let row : k / n < length xs = div_below k n (length xs) some inside in
       let column : k % n < n = mod_below k n some in
       let at = A.each (k / n) (k % n) row column in
-      let place : k / n * n + k % n ≡ k = sym (div-add-mod' k n) in
+      let place : k / n * n + k % n ≡ k = div-add-mod' k n in
       record {
         is = inr (record {
           row = k / n;
@@ -147,9 +149,9 @@ entries-once T xs ys m x y h k = h.1 ∙ ap (λ es. Entries es) (same h.0 k.0 h.
         let n = length ys in
         let lt : k < length xs * n = subst (λ q. k < q) A.many inside in
         let some : 0 < n = some_below k (length xs) n lt in
-        let row : k / n < length xs = div_below k (length xs) n some lt in
+        let row : k / n < length xs = div_below k n (length xs) some lt in
         let column : k % n < n = mod_below k n some in
-        let place : k / n * n + k % n ≡ k = sym (div-add-mod' k n) in
+        let place : k / n * n + k % n ≡ k = div-add-mod' k n in
         let a = A.each (k / n) (k % n) row column in
         let b = B.each (k / n) (k % n) row column in
         ap (λ q. get_or es q []) (sym place) ∙ one-list T.prime a.coefficients b.coefficients _ _ (same-coefficients m (k / n) (k % n) a.coefficients b.coefficients a.stand b.stand) a.are b.are ∙ ap (λ q. get_or fs q []) place)
@@ -174,3 +176,11 @@ matrix-of-entries T xs ys m entries X Y A right = record {
         (λ (e : length cs ≡ width_of T (get_or xs i 0) (get_or ys j 0)). e)
         (λ ne. absurd (right (suc (i * length ys + j)) (record { row = i; column = j; above = row; beside = column; number = refl; coefficients = cs; stand = stand; wrong = ne })))
         (cases_eq (length cs) (width_of T (get_or xs i 0) (get_or ys j 0)))
+
+-- a valid table is over some prime
+pub table-some : (t : LinTable) → 0 < t.field
+table-some t = let r = tabled_range t.field t.valid.linear.prime_tabled in let low = r.0 in omega (arith, low)
+
+-- what has been read row after row is what stands in the literal
+pub read-lists : (p rows columns : ℕ) (m : MatLit) (held : List (List ℕ)) → 0 < p → HasCoefficients m → HasSize rows columns m → held ≡ lists_of p m.rows → AreEntriesOfLiteral p rows columns m held
+read-lists p rows columns m held some are size same = subst (AreEntriesOfLiteral p rows columns m) (sym same) (are_entries p columns m some are rows size)
