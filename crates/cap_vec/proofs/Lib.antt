@@ -9,3 +9,4 @@ mod SystemBlocks
 mod SystemMatrix
 mod SystemParts
 mod SystemAnswers
+mod HomCells

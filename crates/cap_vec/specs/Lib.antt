@@ -4,3 +4,4 @@ pub mod SystemSizes
 pub mod Solved
 pub mod Blocks
 pub mod Laws
+pub mod Homs

@@ -4,6 +4,7 @@
 mod abelian;
 mod blocks;
 mod category;
+mod hom;
 mod laws;
 mod lifts;
 mod morphism;
