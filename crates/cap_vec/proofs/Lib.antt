@@ -4,9 +4,5 @@ mod Kernels
 mod RowBuffers
 mod LiftSizes
 pub mod PullbackLaws
-mod BlockWrites
-mod SystemBlocks
-mod SystemMatrix
-mod SystemParts
-mod SystemAnswers
 mod HomCells
+mod Solutions

@@ -9,7 +9,9 @@ use Rattle.cap_laws.specs.Universal.{IsPullback, IsPushout}
 use Rattle.cap_vec_laws.specs.Vec.{vec_data}
 use Rattle.cap_vec_laws.specs.RowEquation.{IsSystemMatrix, IsValuesRow, IsCanonicalAnswer}
 use Rattle.cap_vec_laws.specs.Laws.{IsRowLift}
-use Rattle.cap_vec.specs.Members.{kernel_of, lift_of, solution_of}
+use Rattle.cap_vec_hom_laws.specs.Homs.{vec_hom}
+use Rattle.cap_solve_laws.proofs.Solutions.{solution_of}
+use Rattle.cap_vec.specs.Members.{kernel_of, lift_of}
 use Rattle.cap_vec.specs.Sizes.{pullback_of, pushout_of}
 
 -- the kernel is the null-row basis
@@ -32,4 +34,4 @@ PushoutIsUniversal = (p : ℕ) (t : is_tabled p ≡ true) (f g : Grid) → IsMat
 -- the solution of a system is its canonical answer: for the matrix and the row of values that have its blocks, the canonical solution, cut into the unknowns, or none exactly where there is none
 abbrev pub SolutionIsCanonical : Type 0
 SolutionIsCanonical = (p : ℕ) (t : is_tabled p ≡ true) (s : System ℕ Grid) → IsSystem (vec_data p) s
-    → (m : Grid) (v : List ℕ) → IsSystemMatrix p s.unknowns s.equations m → IsValuesRow s.equations v → IsCanonicalAnswer p s.unknowns m v (solution_of p t s)
+    → (m : Grid) (v : List ℕ) → IsSystemMatrix p s.unknowns s.equations m → IsValuesRow s.equations v → IsCanonicalAnswer p s.unknowns m v (solution_of (vec_data p) (vec_hom p) s)

@@ -1,10 +1,8 @@
--- The kernels, lifts and solutions that are answered, functions of data of any size.
-use Rattle.std.specs.Prelude.{◌≡◌, ℕ, true, Option, List}
+-- The kernels and lifts that are answered, functions of data of any size.
+use Rattle.std.specs.Prelude.{◌≡◌, ℕ, true, Option}
 use Rattle.cap_field.specs.Residue.{is_tabled}
 use Rattle.cap_matrix.specs.Grid.{Grid, transposed_of}
-use Rattle.cap_laws.specs.declared.values.System.{System}
 use Rattle.cap_vec_laws.specs.Vec.{map_option}
-use Rattle.cap_vec_laws.specs.Systems.{system_matrix, values_row, matrices_of_lift}
 use Rattle.cap_vec_laws.proofs.Members.{members}
 
 -- the kernel is the null-row basis, and the lift has the canonical solution in each row: these functions exist, by the law `MembersExist`
@@ -21,7 +19,3 @@ cokernel_of p t f = transposed_of (kernel_of p t (transposed_of f))
 -- the colift of x along f is the transpose of the lift of x' along f'
 abbrev pub colift_of : (p : ℕ) → is_tabled p ≡ true → Grid → Grid → Option Grid
 colift_of p t f x = map_option transposed_of (lift_of p t (transposed_of x) (transposed_of f))
-
--- the answer of a system: the canonical lift of the row of the values along the coefficients, cut into the unknowns, or none
-abbrev pub solution_of : (p : ℕ) → is_tabled p ≡ true → System ℕ Grid → Option (List Grid)
-solution_of p t s = matrices_of_lift p s.unknowns (lift_of p t (values_row p s.equations) (system_matrix p s.unknowns s.equations))

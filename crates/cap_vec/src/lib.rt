@@ -2,7 +2,6 @@
 #![tactic(auto)]
 
 mod abelian;
-mod blocks;
 mod category;
 mod hom;
 mod laws;

@@ -30,12 +30,7 @@ fn row_solutions(alloc: Global, x: &VecMor, f: &VecMor) -> Result<Option<Items<u
 }
 
 /// The matrix of these cells, where its size keeps the limits.
-pub(crate) fn from_rows(
-    field: Field,
-    rows: u32,
-    cols: u32,
-    cells: Items<u16>,
-) -> Result<VecMor, CatFault>
+fn from_rows(field: Field, rows: u32, cols: u32, cells: Items<u16>) -> Result<VecMor, CatFault>
     requires long { length cells ≡ rows * cols }
     requires residues { (k : ℕ) → k < rows * cols → slice_index cells k < field }
     ensures { Answers (IsSizeOf (matrix_of field rows cols cells)) (λ x. x ≡ matrix_of field rows cols cells) result }

@@ -108,7 +108,7 @@ one_row es v w V W = ext_get_or 0 v w (V.long ∙ sym W.long)
 
 -- the matrix and the row that the code writes have them
 module _ (p : ℕ) (pos : 1 ≤ p) (us : List (ℕ × ℕ)) (es : List (Equation Grid)) (E : AreEquations p us es) where
-  has_blocks : IsSystemMatrix p us es (system_matrix p us es)
+  pub has_blocks : IsSystemMatrix p us es (system_matrix p us es)
   has_blocks = record {
     matrix = system-matrix p pos us es E;
     block = λ u i a e h k r s q t lr ls lq lt.

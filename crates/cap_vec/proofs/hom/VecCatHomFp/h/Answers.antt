@@ -6,7 +6,7 @@ use Rattle.cap_vec_laws.proofs.Arrows.{whole-matrix}
 use Rattle.cap_vec_hom_laws.proofs.HomLaws.{hom_is_kronecker}
 use Rattle.cap_vec.specs.Sizes.{IsSizeOf}
 use Rattle.cap_vec.proofs.Faults.{either_fits}
-use Rattle.cap_vec.proofs.SystemMatrix.{size_met, held_fits}
+use Rattle.cap_vec.proofs.HomCells.{size_met, held_fits}
 use Rattle.cap_vec.proofs.hom.VecCatHomFp.h.Goals as goal
 
 pub returns : goal.returns

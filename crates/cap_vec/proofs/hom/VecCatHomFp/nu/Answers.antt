@@ -1,8 +1,7 @@
 use Rattle.std.proofs.Common.{◌∙◌, subst}
 use Rattle.cap_matrix.specs.Grid.{Grid}
 use Rattle.cap_matrix.specs.Buffer.{IsBufferOf}
-use Rattle.cap_vec.proofs.HomCells.{cells-held}
-use Rattle.cap_vec.proofs.SystemMatrix.{size_met, held_fits}
+use Rattle.cap_vec.proofs.HomCells.{cells-held, size_met, held_fits}
 use Rattle.cap_vec.proofs.hom.VecCatHomFp.nu.Goals as goal
 
 pub returns : goal.returns
