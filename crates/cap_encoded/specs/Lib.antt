@@ -1,1 +1,2 @@
 pub mod OfFreyd
+pub mod ReadsFreyd

@@ -73,7 +73,7 @@ impl<T: Table + Drop> Encoding for Univ<Solved<AddCat<T>>> {
     type M = MorData;
 
     ghost use Rattle.cap_encoded.specs.OfFreyd.{freyd_reading};
-    ghost use Rattle.cap_encoded.proofs.OfFreyd.{freyd_read};
+    ghost use Rattle.cap_encoded.specs.ReadsFreyd.{freyd_read};
 
     ghost reading = { λ c. freyd_reading };
 

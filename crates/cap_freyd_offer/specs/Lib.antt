@@ -1,0 +1,5 @@
+pub mod Below
+pub mod Offer
+pub mod Members
+pub mod Laws
+pub mod Canonical
