@@ -15,7 +15,7 @@ use cap_solve::Solved;
 use std::alloc::Global;
 
 /// An equal list of table objects.
-fn copied_parts(alloc: Global, parts: &[u32]) -> Result<Limited<u32, 2048>, NoMemory>
+pub(crate) fn copied_parts(alloc: Global, parts: &[u32]) -> Result<Limited<u32, 2048>, NoMemory>
     requires { length parts.now ≤ 2048 }
     ensures { IfOk result (λ copy. copy ≡ parts.now) }
 {
@@ -32,7 +32,7 @@ fn copied_lists(alloc: Global, entries: &[Items<u16>]) -> Result<Vec<Items<u16>>
 }
 
 /// These entries, which keep the limits of a matrix of combinations, as data.
-fn entries_of(lists: Vec<Items<u16>>) -> Entries
+pub(crate) fn entries_of(lists: Vec<Items<u16>>) -> Entries
     requires many { length lists.items ≤ 4194304 }
     requires few { length (joined lists.items) ≤ 1048576 }
     ensures { result ≡ lists.items }
@@ -41,7 +41,7 @@ fn entries_of(lists: Vec<Items<u16>>) -> Entries
 }
 
 /// The matrix of combinations between copies of these lists with copies of these entries.
-fn matrix_between<T: Table>(
+pub(crate) fn matrix_between<T: Table>(
     alloc: Global,
     c: &AddCat<T>,
     from: &Limited<u32, 2048>,
