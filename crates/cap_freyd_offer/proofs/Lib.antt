@@ -1,2 +1,3 @@
 mod Data
 mod Canonical
+mod Example
