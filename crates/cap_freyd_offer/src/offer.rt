@@ -7,7 +7,7 @@ use cap_encoded::{abelian_prim, default_weight};
 use cap_field::Field;
 use cap_freyd::Freyd;
 use cap_freyd_univ::Univ;
-use cap_laws::{CatFault, Preadditive, Table};
+use cap_laws::{CatFault, Preadditive};
 use cap_lincat::LinTable;
 use cap_names::{NoMemory, OpId};
 use cap_ops::{Arg, Kind, Objects, Offer, PrimOut};
@@ -22,17 +22,17 @@ pub struct FreydOffer {
 }
 
 impl Model for FreydOffer {
-    ghost use Rattle.cap_lincat.specs.Data.{ValidTable};
+    ghost use Rattle.cap_lincat.specs.declared.table.LinTable.{LinTable as table};
 
-    ghost Value = { ValidTable };
+    ghost Value = { table };
 
-    ghost view = { λ o. record { table = ⟦<LinTable as Table>⟧.table o.cat.freyd.below.below.table; valid = o.cat.freyd.below.below.table.valid } };
+    ghost view = { λ o. o.cat.freyd.below.below.table };
 }
 
 impl FreydOffer {
     /// The offer over a table.
     pub fn new(table: LinTable) -> FreydOffer
-        ensures { result.table ≡ ⟦<LinTable as Table>⟧.table table }
+        ensures { result ≡ table }
     {
         FreydOffer {
             cat: Univ::new(Freyd::new(Solved::new(AddCat::new(table)))),
@@ -49,7 +49,7 @@ impl FreydOffer {
 
     /// The table.
     pub fn table(&self) -> &LinTable
-        ensures { ⟦<LinTable as Table>⟧.table result.now ≡ self.now.table }
+        ensures { result.now ≡ self.now }
     {
         self.cat.freyd().below().below().table()
     }
@@ -62,18 +62,19 @@ impl Offer for FreydOffer {
 
     ghost use Rattle.std.specs.Prelude.{◌≡◌};
     ghost use Rattle.cap_ops.specs.Primitives.{prime_of};
+    ghost use Rattle.cap_lincat.specs.Tables.{table_in};
     ghost use Rattle.cap_freyd_offer.specs.Offer.{freyd_offer};
     ghost use Rattle.cap_freyd_offer.specs.Members.{freyd_plain, freyd_linear, freyd_means, freyd_one, freyd_few};
 
-    ghost offered = { λ o. freyd_offer o.table };
+    ghost offered = { λ o. freyd_offer (table_in o) };
 
     fn kind(&self) -> Kind {
         Kind::Freyd
     }
 
     fn field(&self) -> Field
-        ensures prime { prime_of (freyd_offer self.now.table) ≡ result }
-        ensures value { result ≡ self.now.table.prime }
+        ensures prime { prime_of (freyd_offer (table_in self.now)) ≡ result }
+        ensures value { result ≡ self.now.field }
     {
         self.cat.field()
     }
@@ -92,13 +93,13 @@ impl Offer for FreydOffer {
         abelian_prim(alloc, &self.cat, op, args, objects)
     }
 
-    ghost plain_ends = { λ o. freyd_plain o.table o.valid };
+    ghost plain_ends = { λ o. freyd_plain (table_in o) o.valid };
 
-    ghost linear = { λ o. freyd_linear o.table o.valid };
+    ghost linear = { λ o. freyd_linear (table_in o) o.valid };
 
-    ghost prims_mean = { λ o. freyd_means o.table o.valid };
+    ghost prims_mean = { λ o. freyd_means (table_in o) o.valid };
 
-    ghost one_outcome = { λ o. freyd_one o.table o.valid };
+    ghost one_outcome = { λ o. freyd_one (table_in o) o.valid };
 
-    ghost few_objects = { λ o. freyd_few o.table o.valid };
+    ghost few_objects = { λ o. freyd_few (table_in o) o.valid };
 }

@@ -111,11 +111,13 @@ fn kernel_of_x(
     };
     let args = single(alloc, Arg::Mor(arrow))?;
     let args = args.as_slice();
-    if !is_dual(offer.table()) || !ends_fit(KERNEL, args).is_ok() {
-        return Ok(None);
+    let dual = is_dual(offer.table());
+    let fitting = ends_fit(KERNEL, args).is_ok();
+    if dual && fitting {
+        let given = offer.prim(alloc, KERNEL, args, room)?;
+        return Ok(Some(given));
     }
-    let given = offer.prim(alloc, KERNEL, args, room)?;
-    Ok(Some(given))
+    Ok(None)
 }
 
 #[test]

@@ -1,6 +1,7 @@
 use Rattle.std.proofs.Common.{sym, subst}
 use Rattle.std.specs.Prelude.{IsSome}
-use Rattle.cap_lincat.specs.Data.{ValidTable}
+use Rattle.cap_lincat.specs.declared.table.LinTable.{LinTable}
+use Rattle.cap_lincat.specs.Tables.{table_in}
 use Rattle.cap_ops.specs.declared.plans.Kind.TheVariants.{Freyd}
 use Rattle.cap_ops.specs.Arrows.{over, arguments}
 use Rattle.cap_ops.specs.Values.{Fits}
@@ -16,16 +17,16 @@ abelian_prim-requires-clause-is_offered g c = c.requires.is_offered
 pub abelian_prim-requires-clause-fits : goal.abelian_prim-requires-clause-fits
 unfolding freyd_offer
 abelian_prim-requires-clause-fits g c =
-    subst (λ (W : ValidTable). Fits (over W.table.prime) c.args.op.0 (arguments c.args.args.now)) (sym c.self.view_is) c.requires.fits
+    subst (λ (W : LinTable). Fits (over W.field) c.args.op.0 (arguments c.args.args.now)) (sym c.self.view_is) c.requires.fits
 
 pub abelian_prim-requires-clause-known : goal.abelian_prim-requires-clause-known
 unfolding freyd_offer
 abelian_prim-requires-clause-known g c =
     let told = g.B.Objects.told c.args.objects.now in
-    subst (λ (W : ValidTable). Known (freyd_offer W.table).category told (arguments c.args.args.now)) (sym c.self.view_is) c.requires.known
+    subst (λ (W : LinTable). Known (freyd_offer (table_in W)).category told (arguments c.args.args.now)) (sym c.self.view_is) c.requires.known
 
 pub returns : goal.returns
 unfolding freyd_offer
 returns g c =
     let told = g.B.Objects.told c.args.objects.now in
-    subst (λ (W : ValidTable). PrimGives (freyd_offer W.table) told c.args.op.0 c.args.args.now c.abelian_prim.result) c.self.view_is (c.abelian_prim.ensures Freyd)
+    subst (λ (W : LinTable). PrimGives (freyd_offer (table_in W)) told c.args.op.0 c.args.args.now c.abelian_prim.result) c.self.view_is (c.abelian_prim.ensures Freyd)
