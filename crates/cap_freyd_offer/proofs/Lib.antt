@@ -1,3 +1,2 @@
 mod Data
 mod Canonical
-mod Example

@@ -3,8 +3,6 @@
 
 mod laws;
 mod offer;
-#[cfg(test)]
-mod tests;
 
 pub use laws::{
     law_offer_canonical, law_offer_morphisms, law_offer_objects, law_offer_of_presentations,
