@@ -49,13 +49,17 @@ pub data IsCanonical (T : TableData) : ℕ → List (Value Object Morphism) → 
       → IsTrue b ↔ Through (closure_data T) f.from.relation.to f.to.relation.from f.to.relation.to f.to.relation (subtract (closure_data T) f.alpha g.alpha)
       → IsCanonical T 8 (morphism f ∷ morphism g ∷ []) (truth b)
   -- ZeroObject: the identity of the empty relation between empty lists
-  zero_object : let z = presented ((closure_data T).identity []) in IsCanonical T 10 [] (morphism (between z z ((closure_data T).identity [])))
+  zero_object : IsCanonical T 10 [] (morphism (between (presented ((closure_data T).identity [])) (presented ((closure_data T).identity [])) ((closure_data T).identity [])))
   -- DirectSum: the block sum of the relations, with the block form of their targets, first summand first
-  direct_sum : (a b : Object) → let s = presented (block_sum (closure_data T) (closure_sum T) a.relation b.relation) in let d = closure_sum T a.relation.to b.relation.to in
-      IsCanonical T 11 (object a ∷ object b ∷ []) (four (between a s d.i1) (between b s d.i2) (between s a d.p1) (between s b d.p2))
+  direct_sum : (a b : Object) → IsCanonical T 11 (object a ∷ object b ∷ [])
+      (let s = presented (block_sum (closure_data T) (closure_sum T) a.relation b.relation) in
+      let d = closure_sum T a.relation.to b.relation.to in
+      four (between a s d.i1) (between b s d.i2) (between s a d.p1) (between s b d.p2))
   -- Kernel: the weak kernel of f above the relation of its target, cut after the source of f; its relations are the first part of the weak kernel of it above the relation of the source of f
-  kernel : (f : Morphism) → let W = preimage (closure_data T) (closure_sum T) (closure_weak_kernel T) in let i = W f.alpha f.to.relation in
-      IsCanonical T 16 (morphism f ∷ []) (morphism (between (presented (W i f.from.relation)) f.from i))
+  kernel : (f : Morphism) → IsCanonical T 16 (morphism f ∷ [])
+      (let W = preimage (closure_data T) (closure_sum T) (closure_weak_kernel T) in
+      let i = W f.alpha f.to.relation in
+      morphism (between (presented (W i f.from.relation)) f.from i))
   -- Cokernel: the identity, onto the relation of the target above f
   cokernel : (f : Morphism) → IsCanonical T 18 (morphism f ∷ [])
       (morphism (between f.to (presented (stack (closure_data T) (closure_sum T) f.to.relation f.alpha)) ((closure_data T).identity f.to.relation.to)))
