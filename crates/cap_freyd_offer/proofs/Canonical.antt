@@ -1,8 +1,6 @@
 -- Each primitive's answer is the canonical one.
-use Rattle.std.proofs.Common.{◌≡◌, ℕ, true, false, List, [], ◌∷◌, Option, Some, None, refl, sym, ap, ◌∙◌, subst}
-use Rattle.cap_laws.specs.Factor.{Through}
+use Rattle.std.proofs.Common.{◌≡◌, ℕ, true, false, List, [], ◌∷◌, Option, Some, None, refl, sym, ◌∙◌, subst}
 use Rattle.cap_laws.specs.Systems.{first_of}
-use Rattle.cap_laws.specs.Universal.{subtract}
 use Rattle.cap_laws.specs.Table.{TableData}
 use Rattle.cap_add_laws.specs.Closure.{MorphismMatrix, closure_data}
 use Rattle.cap_freyd_laws.specs.Freyd.{freyd_data}

@@ -1,20 +1,18 @@
 -- The objects and morphisms of the offer are relations and the matrices between them.
-use Rattle.std.proofs.Common.{◌≡◌, ℕ, List, refl, sym, ap, ◌∙◌, subst}
-use Rattle.std.specs.Prelude.{◌↔◌}
-use Rattle.cap_laws.specs.Linear.{Arrow, Same}
+use Rattle.std.proofs.Common.{◌≡◌, refl, sym, ap, ◌∙◌, subst}
+use Rattle.cap_laws.specs.Linear.{Arrow}
 use Rattle.cap_laws.specs.Factor.{Through}
 use Rattle.cap_laws.specs.Table.{TableData, IsTable}
-use Rattle.cap_add_laws.specs.Closure.{MorphismMatrix, IsMorphismMatrix, closure_data}
+use Rattle.cap_add_laws.specs.Closure.{MorphismMatrix, closure_data}
 use Rattle.cap_add_laws.proofs.Linear.{closure-linear}
 use Rattle.cap_freyd_laws.specs.Freyd.{IsFreydMorphism, freyd_data}
 use Rattle.cap_ops.specs.Arrows.{Between}
 use Rattle.cap_ops.specs.Told.{IsArrow}
 use Rattle.cap_data.specs.declared.data.ObjData.{ObjData}
-use Rattle.cap_data.specs.declared.data.ObjData.TheVariants.{Relation}
 use Rattle.cap_data.specs.declared.data.MorData.{MorData}
 use Rattle.cap_data.specs.declared.data.MorData.TheVariants.{Entries}
-use Rattle.cap_alike.specs.Along.{IsObjectDatum, IsArrowDatum, along}
-use Rattle.cap_encoded.specs.OfFreyd.{read_relation, write_relation, read_alpha, read_square, freyd_reading}
+use Rattle.cap_alike.specs.Along.{IsObjectDatum, along}
+use Rattle.cap_encoded.specs.OfFreyd.{read_relation, read_alpha, read_square, freyd_reading}
 use Rattle.cap_freyd_offer.specs.Offer.{freyd_offer}
 use Rattle.cap_freyd_offer.specs.Laws.{IsRelation, ObjectsAreRelations, IsSquare, MorphismsAreSquares}
 

@@ -8,7 +8,7 @@ use Rattle.cap_addclosure.specs.Sizes.{closure_size, IsSizeInSum, closure_meets}
 use Rattle.cap_solve_laws.specs.Sums.{SumData}
 use Rattle.cap_solve_laws.proofs.Solutions.{solution_of}
 use Rattle.cap_solve_laws.proofs.WeakKernels.{weak_kernel_of}
-use Rattle.cap_solve.specs.Sizes.{SumMeets, IsSizeInSystem, IsSizeInWeakKernel}
+use Rattle.cap_solve.specs.Sizes.{IsSizeInSystem, IsSizeInWeakKernel}
 
 module _ (T : TableData) where
   -- the empty list is the zero object, and one list after another the direct sum

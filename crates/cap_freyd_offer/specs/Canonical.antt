@@ -1,5 +1,5 @@
 -- The canonical answers of the primitives of the Freyd category of the additive closure of a table. A relation is written by its matrix.
-use Rattle.std.specs.Prelude.{◌≡◌, ◌↔◌, ℕ, Bool, IsTrue, List, [], ◌∷◌, Option, Some, None}
+use Rattle.std.specs.Prelude.{◌↔◌, ℕ, Bool, IsTrue, List, [], ◌∷◌, Option, Some, None}
 use Rattle.cap_laws.specs.Factor.{Through}
 use Rattle.cap_laws.specs.Systems.{first_of}
 use Rattle.cap_laws.specs.Universal.{subtract}
@@ -9,7 +9,7 @@ use Rattle.cap_freyd_laws.specs.declared.values.Presentation.{Presentation}
 use Rattle.cap_freyd_laws.specs.declared.values.PresentationMor.{PresentationMor}
 use Rattle.cap_freyd_laws.specs.Freyd.{freyd_data}
 use Rattle.cap_freyd_laws.specs.Canonical.{stack, preimage, block_sum, lift_system, colift_system}
-use Rattle.cap_ops.specs.Values.{Value, object, morphism, two, four, truth, scalar, none}
+use Rattle.cap_ops.specs.Values.{Value, object, morphism, four, truth, scalar, none}
 use Rattle.cap_ops.specs.Arrows.{ValueOver}
 use Rattle.cap_data.specs.declared.data.ObjData.{ObjData}
 use Rattle.cap_data.specs.declared.data.MorData.{MorData}
@@ -55,7 +55,8 @@ pub data IsCanonical (T : TableData) : ℕ → List (Value Object Morphism) → 
       (let s = presented (block_sum (closure_data T) (closure_sum T) a.relation b.relation) in
       let d = closure_sum T a.relation.to b.relation.to in
       four (between a s d.i1) (between b s d.i2) (between s a d.p1) (between s b d.p2))
-  -- Kernel: the weak kernel of f above the relation of its target, cut after the source of f; its relations are the first part of the weak kernel of it above the relation of the source of f
+  -- Kernel: the weak kernel i of f above the relation of its target, cut after the source of f;
+  -- its relations are the first part of the weak kernel of i above the relation of the source of f
   kernel : (f : Morphism) → IsCanonical T 16 (morphism f ∷ [])
       (let W = preimage (closure_data T) (closure_sum T) (closure_weak_kernel T) in
       let i = W f.alpha f.to.relation in

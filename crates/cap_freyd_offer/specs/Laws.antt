@@ -1,5 +1,5 @@
 -- The laws of the offer of the Freyd category over a valid table.
-use Rattle.std.specs.Prelude.{◌≡◌, ◌⊎◌, ◌↔◌, ℕ, List}
+use Rattle.std.specs.Prelude.{◌≡◌, ◌⊎◌, ◌↔◌}
 use Rattle.cap_laws.specs.Universal.{IsAbelian}
 use Rattle.cap_laws.specs.Table.{TableData, IsTable}
 use Rattle.cap_add_laws.specs.Closure.{MorphismMatrix, IsMorphismMatrix, closure_data}

@@ -1,9 +1,10 @@
--- What the offer of the Freyd category over a valid table owes: its category is linear and abelian, its morphisms have the ends that they name, and each primitive's answer has its operation's meaning and is one, with few new objects.
-use Rattle.std.specs.Prelude.{◌≡◌, ℕ, List, [], refl}
+-- What the offer of the Freyd category over a valid table owes: its category is linear and abelian, its morphisms have the ends that they name,
+-- and each primitive's answer has its operation's meaning and is one, with few new objects.
+use Rattle.std.specs.Prelude.{◌≡◌, [], refl}
 use Rattle.cap_laws.specs.Linear.{IsLinear}
 use Rattle.cap_laws.specs.Universal.{IsAbelian}
 use Rattle.cap_laws.specs.Table.{TableData, IsTable}
-use Rattle.cap_add_laws.specs.Closure.{MorphismMatrix, closure_data, closure_sum}
+use Rattle.cap_add_laws.specs.Closure.{closure_data, closure_sum}
 use Rattle.cap_add_laws.proofs.Linear.{closure-linear}
 use Rattle.cap_add_laws.proofs.DirectSum.{empty-is-zero, sum-is}
 use Rattle.cap_add_laws.proofs.Structure.{closure-is-hom}

@@ -1,5 +1,5 @@
 -- The offer of the Freyd category of the additive closure of a table: its primitives on data.
-use Rattle.std.specs.Prelude.{◌⊎◌, ℕ, List, []}
+use Rattle.std.specs.Prelude.{◌⊎◌, []}
 use Rattle.cap_laws.specs.Table.{TableData}
 use Rattle.cap_add_laws.specs.Closure.{MorphismMatrix, closure_data, closure_sum}
 use Rattle.cap_freyd.specs.Sizes.{rows_meets, difference_meets}

@@ -1,4 +1,4 @@
-use Rattle.std.proofs.Common.{◌≡◌, ◌∙◌, sym, ap}
+use Rattle.std.proofs.Common.{◌∙◌, sym, ap}
 use Rattle.cap_lincat.specs.Tables.{table_in}
 use Rattle.cap_lincat.specs.declared.table.LinTable.{LinTable}
 use Rattle.cap_freyd_offer.specs.Members.{freyd_prime}

@@ -1,11 +1,10 @@
 use Rattle.std.proofs.Common.{sym, subst}
-use Rattle.std.specs.Prelude.{IsSome}
 use Rattle.cap_lincat.specs.declared.table.LinTable.{LinTable}
 use Rattle.cap_lincat.specs.Tables.{table_in}
 use Rattle.cap_ops.specs.declared.plans.Kind.TheVariants.{Freyd}
 use Rattle.cap_ops.specs.Arrows.{over, arguments}
 use Rattle.cap_ops.specs.Values.{Fits}
-use Rattle.cap_ops.specs.Primitives.{PrimGives, prime_of}
+use Rattle.cap_ops.specs.Primitives.{PrimGives}
 use Rattle.cap_ops.specs.Told.{Known}
 use Rattle.cap_freyd_offer.specs.Offer.{freyd_offer}
 use Rattle.cap_freyd_offer.proofs.offer.FreydOfferOffer.prim.Goals as goal
