@@ -1,0 +1,4 @@
+pub mod Offer
+pub mod Members
+pub mod Laws
+pub mod Canonical
