@@ -16,12 +16,7 @@ pub struct Shape {
 }
 
 /// The first entry with a wrong number of coefficients, from 0.
-pub fn first_wrong<T: Table>(
-    table: &T,
-    a: &[u32],
-    b: &[u32],
-    entries: &[Items<u16>],
-) -> Option<u32>
+pub fn first_wrong<T: Table>(table: &T, a: &[u32], b: &[u32], entries: &[Items<u16>]) -> Option<u32>
     requires from { AreObjects (T.table table.now) a.now }
     requires to { AreObjects (T.table table.now) b.now }
     requires short { length a.now ≤ 4096 }

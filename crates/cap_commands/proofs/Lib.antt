@@ -11,3 +11,4 @@ pub mod Seating
 pub mod Behind
 pub mod Clauses
 pub mod Running
+pub mod Lawless
