@@ -8,8 +8,7 @@ ghost use Rattle.cap_data.specs.declared.data.ObjData.TheVariants.{Dim};
 ghost use Rattle.cap_ops.specs.Arrows.{arguments};
 ghost use Rattle.cap_ops.specs.Mismatches.{HaveSorts};
 ghost use Rattle.cap_ops.specs.Told.{IsArrow, Known};
-ghost use Rattle.cap_ops.specs.declared.plans.Kind.TheVariants.{Mat};
-ghost use Rattle.cap_offer.specs.Labels.{kind_of, any_offer};
+ghost use Rattle.cap_offer.specs.Labels.{any_offer};
 ghost use Rattle.cap_offer.specs.Literals.{IsInteger, HasIntegers};
 ghost use Rattle.cap_primitives.specs.Given.{from_to};
 
@@ -74,7 +73,6 @@ fn random_square(alloc: Global, n: u32, seed: &mut u64) -> Result<MatLit, NoMemo
 
 /// A random morphism from a dimension to itself.
 fn random_morphism(alloc: Global, cat: &AnyCat, n: u32, seed: &mut u64) -> Option<MorData>
-    requires { kind_of cat.now ≡ Mat }
     ensures { IfSome result (λ m. IsArrow (any_offer cat.now).category (from_to (Dim n) (Dim n) m)) }
 {
     let Ok(rows) = random_square(alloc, n, seed) else {
@@ -163,7 +161,7 @@ fn time_size(rt: &HostRuntime, n: u32, runs: u32) -> io::Result<()> {
     let Some(field) = Field::from_prime(101) else {
         return println!(rt; "no field");
     };
-    let Ok(cat) = AnyCat::new(alloc, Kind::Mat, field, None) else {
+    let Ok(cat) = AnyCat::new(alloc, Kind::Mat, field) else {
         return println!(rt; "no room");
     };
     let mut seed = 12345u64;

@@ -11,4 +11,3 @@ pub mod Seating
 pub mod Behind
 pub mod Clauses
 pub mod Running
-pub mod Lawless

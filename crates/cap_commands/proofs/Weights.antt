@@ -2,14 +2,12 @@
 use Rattle.std.proofs.Common.{◌≡◌, ℕ, ◌≤◌, Bool, true, false, List, [], ◌∷◌, Option, Some, None, refl, sym, ap, ◌∙◌, subst, arith}
 use Rattle.std.specs.Prelude.{◌==◌, ◌++◌, if◌then◌else◌}
 use Rattle.cap_names.specs.declared.identifiers.OpId.{OpId}
-use Rattle.cap_ops.specs.declared.plans.Kind.TheVariants.{Mat, Add}
+use Rattle.cap_ops.specs.declared.plans.Kind.TheVariants.{Mat}
 use Rattle.cap_ops.specs.declared.plans.TheConstants.{MOST_WEIGHT}
-use Rattle.cap_ops.specs.Offered.{offered_by_all, offered_besides, offered_weight, weight_in}
+use Rattle.cap_ops.specs.Offered.{offered_by_all, offered_besides, weight_in}
 use Rattle.cap_ops.proofs.Places.{none≢some, some_inner}
 use Rattle.cap_vec_offer.specs.Members.{offer_weights}
-use Rattle.cap_add_offer.specs.Members.{list_weights}
-use Rattle.cap_lincat.specs.Tables.{table_in}
-use Rattle.cap_offer.specs.Labels.{Label, vec, add, any_offer}
+use Rattle.cap_offer.specs.Labels.{Label, vec, any_offer}
 use Rattle.cap_session_lines.specs.Doing.{HasWeights}
 
 abbrev IsRanged : ℕ → Type 0
@@ -45,16 +43,8 @@ thirty = (omega arith, omega arith)
 matrices-ranged : AreRanged (offered_by_all ++ offered_besides Mat)
 matrices-ranged = (one, (one, (one, (one, (one, (two, (one, (five, (twenty, (twenty, (twenty, (twenty, (thirty, (thirty, tt))))))))))))))
 
-lists-ranged : AreRanged (offered_by_all ++ offered_besides Add)
-lists-ranged = (one, (one, (one, (one, (one, (two, (one, (five, (twenty, (twenty, (twenty, (twenty, tt))))))))))))
-
--- the weights of an offer are those of its kind, which are ranged
-kind-ranged : (w offered : ℕ → Option ℕ) → w ≡ offered → ((op n : ℕ) → offered op ≡ Some n → IsRanged n) → (op n : ℕ) → w op ≡ Some n → IsRanged n
-kind-ranged w offered same ranged op n e = ranged op n (sym (ap (λ (v : ℕ → Option ℕ). v op) same) ∙ e)
-
-ranged : (x : Label) (op n : ℕ) → (any_offer x).weight op ≡ Some n → IsRanged n
-ranged (vec p) = kind-ranged (any_offer (vec p)).weight (offered_weight Mat) (offer_weights p) (weight-ranged (offered_by_all ++ offered_besides Mat) matrices-ranged)
-ranged (add V) = kind-ranged (any_offer (add V)).weight (offered_weight Add) (list_weights (table_in V)) (weight-ranged (offered_by_all ++ offered_besides Add) lists-ranged)
+matrix-ranged : (p op n : ℕ) → (any_offer (vec p)).weight op ≡ Some n → IsRanged n
+matrix-ranged p op n e = weight-ranged (offered_by_all ++ offered_besides Mat) matrices-ranged op n (sym (ap (λ (w : ℕ → Option ℕ). w op) (offer_weights p)) ∙ e)
 
 pub has_weights : (x : Label) → HasWeights (any_offer x)
-has_weights x = record { from = λ op n e. (ranged x op n e).0; to = λ op n e. (ranged x op n e).1 }
+has_weights (vec p) = record { from = λ op n e. (matrix-ranged p op n e).0; to = λ op n e. (matrix-ranged p op n e).1 }

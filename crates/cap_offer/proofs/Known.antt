@@ -14,8 +14,7 @@ use Rattle.cap_data.specs.declared.data.ObjData.{ObjData}
 use Rattle.cap_data.specs.declared.data.ObjData.TheVariants.{Dim}
 use Rattle.cap_data.specs.declared.data.MorData.{MorData}
 use Rattle.cap_primitives.specs.Given.{from_to}
-use Rattle.cap_ops.specs.declared.plans.Kind.TheVariants.{Mat}
-use Rattle.cap_offer.specs.Labels.{Label, kind_of, any_offer}
+use Rattle.cap_offer.specs.Labels.{Label, any_offer}
 use Rattle.cap_offer.proofs.Offers.{dimension-object}
 
 map-snoc : {A B : Type 0} (f : A → B) (xs : List A) (x : A) → map f (xs ++ x ∷ []) ≡ map f xs ++ f x ∷ []
@@ -45,8 +44,8 @@ module _ (l : Label) where
   pub none-known : (told : Handle → Option ObjData) → AreKnown told []
   none-known told = record { data_of = []; tells = tt; are = tt }
 
-  pub object-known : kind_of l ≡ Mat → (objects : List ObjData) (h : Handle) (n : ℕ) → slice_get objects h.0 ≡ Some (Dim n) → AreKnown (told_in objects) (Obj h ∷ [])
-  object-known is objects h n e = record { data_of = object (Dim n) ∷ []; tells = (e, tt); are = (dimension-object l is n (Dim n) refl, tt) }
+  pub object-known : (objects : List ObjData) (h : Handle) (n : ℕ) → slice_get objects h.0 ≡ Some (Dim n) → AreKnown (told_in objects) (Obj h ∷ [])
+  object-known objects h n e = record { data_of = object (Dim n) ∷ []; tells = (e, tt); are = (dimension-object l n (Dim n) refl, tt) }
 
   pub arrow-known : (told : Handle → Option ObjData) (f : Arrow MorData) (a b : ObjData) → told f.src ≡ Some a → told f.tgt ≡ Some b
       → IsArrow (any_offer l).category (from_to a b f.value) → AreKnown told (Mor f ∷ [])

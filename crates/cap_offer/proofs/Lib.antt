@@ -2,4 +2,3 @@ pub mod Offers
 pub mod Cells
 pub mod Literals
 pub mod Known
-pub mod EntryLiterals

@@ -16,13 +16,9 @@ use Rattle.cap_names.specs.declared.literals.MorLit.{MorLit}
 use Rattle.cap_names.specs.declared.literals.MorLit.TheVariants as morphisms
 use Rattle.cap_data.specs.declared.data.ObjData.{ObjData}
 use Rattle.cap_data.specs.declared.data.MorData.TheVariants.{Mat}
-use Rattle.cap_laws.specs.Table.{TableData}
-use Rattle.cap_encoded.specs.OfClosures.{read_list}
-use Rattle.cap_lincat.specs.Tables.{table_in}
-use Rattle.cap_offer.proofs.EntryLiterals.{entries-once}
-use Rattle.cap_offer.specs.Labels.{Label, vec, add}
+use Rattle.cap_offer.specs.Labels.{Label, vec}
 use Rattle.cap_offer.proofs.Cells.{AreCells, matrix-of-literal}
-use Rattle.cap_offer.specs.Literals.{HasSize, IsGiven, IsResidueAt, IsMatrixOfLiteral, matrix_literal, object_literal, morphism_literal, matrix_between, entries_between}
+use Rattle.cap_offer.specs.Literals.{HasSize, IsGiven, IsResidueAt, IsMatrixOfLiteral, matrix_literal, object_literal, morphism_literal, matrix_between}
 use Rattle.cap_offer.specs.Laws.{ReadsOnce, LiteralsAreOne}
 
 -- one integer stands at a place
@@ -43,17 +39,11 @@ between-once : (p : ℕ) (a b : ObjData) (lit : MorLit) → ReadsOnce (matrix_be
 between-once p a b (morphisms.Rows m) = matrix-once p _ _ m
 between-once p a b (morphisms.Parts ms) = λ x y h k. absurd h
 
-entries-between-once : (T : TableData) (a b : ObjData) (lit : MorLit) → ReadsOnce (entries_between T a b lit)
-entries-between-once T a b (morphisms.Rows m) = entries-once T (read_list a) (read_list b) m
-entries-between-once T a b (morphisms.Parts ms) = λ x y h k. absurd h
-
 objects-once : (l : Label) (lit : ObjLit) → ReadsOnce (object_literal l lit)
 objects-once (vec p) lit = λ x y h k. h ∙ sym k
-objects-once (add V) lit = λ x y h k. h ∙ sym k
 
 morphisms-once : (l : Label) (a b : ObjData) (lit : MorLit) → ReadsOnce (morphism_literal l a b lit)
 morphisms-once (vec p) a b lit = between-once p a b lit
-morphisms-once (add V) a b lit = entries-between-once (table_in V) a b lit
 
 pub literals_are_one : LiteralsAreOne
 literals_are_one = record { objects = objects-once; morphisms = morphisms-once }

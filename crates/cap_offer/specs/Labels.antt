@@ -1,38 +1,29 @@
 -- What categories of every kind are as plain data, and what they offer.
 use Rattle.std.specs.Prelude.{ℕ}
 use Rattle.cap_ops.specs.declared.plans.Kind.{Kind}
-use Rattle.cap_ops.specs.declared.plans.Kind.TheVariants.{Mat, Add}
+use Rattle.cap_ops.specs.declared.plans.Kind.TheVariants.{Mat}
 use Rattle.cap_ops.specs.Primitives.{OfferData}
 use Rattle.cap_data.specs.declared.data.ObjData.{ObjData}
 use Rattle.cap_data.specs.declared.data.MorData.{MorData}
-use Rattle.cap_lincat.specs.Tables.{table_in}
-use Rattle.cap_lincat.specs.declared.table.LinTable.{LinTable}
 use Rattle.cap_vec_offer.specs.Offer.{matrix_offer}
-use Rattle.cap_add_offer.specs.Offer.{list_offer}
 use Rattle.cap_offer.specs.declared.any.Over.{Over}
-use Rattle.cap_offer.specs.declared.any.Over.TheVariants.{Matrices, Lists}
+use Rattle.cap_offer.specs.declared.any.Over.TheVariants.{Matrices}
 
 -- a category: its kind, and what it is over
 pub data Label : Type 0 where
   -- matrices over the field of p elements
   vec : ℕ → Label
-  -- the additive closure of a table: lists of its objects
-  add : LinTable → Label
 
 -- the label of what a category is made of
 abbrev pub label_of : Over → Label
 label_of (Matrices p) = vec p
-label_of (Lists V) = add V
 
 -- its kind, the prime that its residues are below, and what it offers
 abbrev pub kind_of : Label → Kind
 kind_of (vec p) = Mat
-kind_of (add V) = Add
 
 abbrev pub prime_of_label : Label → ℕ
 prime_of_label (vec p) = p
-prime_of_label (add V) = V.field
 
 abbrev pub any_offer : Label → OfferData ObjData MorData
 any_offer (vec p) = matrix_offer p
-any_offer (add V) = list_offer (table_in V)

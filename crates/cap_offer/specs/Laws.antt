@@ -14,12 +14,8 @@ use Rattle.cap_data.specs.declared.data.ObjData.{ObjData}
 use Rattle.cap_data.specs.declared.data.MorData.{MorData}
 use Rattle.cap_data.specs.OfMatrices.{matrix_reading}
 use Rattle.cap_alike.specs.Along.{read_value, read_values}
-use Rattle.cap_add_laws.specs.Closure.{closure_data}
-use Rattle.cap_encoded.specs.OfClosures.{closure_reading}
-use Rattle.cap_vec_offer.specs.Canonical as matrices
-use Rattle.cap_add_offer.specs.Canonical as lists
-use Rattle.cap_lincat.specs.Tables.{table_in}
-use Rattle.cap_offer.specs.Labels.{Label, vec, add, kind_of, prime_of_label, any_offer}
+use Rattle.cap_vec_offer.specs.Canonical.{IsCanonical}
+use Rattle.cap_offer.specs.Labels.{Label, vec, kind_of, prime_of_label, any_offer}
 use Rattle.cap_offer.specs.Literals.{Literal, object_literal, morphism_literal}
 
 -- the prime of a label is one of the table
@@ -51,8 +47,7 @@ RulesHold = (l : Label) → ((any_offer l).kind ≡ Add) ⊎ IsAbelian (any_offe
 
 -- an answer on arguments that fit is the canonical one of the kind
 abbrev pub IsCanonicalIn : Label → ℕ → List (ValueOver ObjData MorData) → ValueOver ObjData MorData → Type 0
-IsCanonicalIn (vec p) op args v = matrices.IsCanonical p op (read_values (vec_data p) matrix_reading args) (read_value (vec_data p) matrix_reading v)
-IsCanonicalIn (add V) op args v = lists.IsCanonical (table_in V) op (read_values (closure_data (table_in V)) closure_reading args) (read_value (closure_data (table_in V)) closure_reading v)
+IsCanonicalIn (vec p) op args v = IsCanonical p op (read_values (vec_data p) matrix_reading args) (read_value (vec_data p) matrix_reading v)
 
 abbrev pub AnswersAreCanonical : Type 0
 AnswersAreCanonical = (l : Label) → IsTabled l → (op : ℕ) (args : List (ValueOver ObjData MorData)) (v : ValueOver ObjData MorData) → Fits (over (prime_of_label l)) op args

@@ -1,17 +1,15 @@
 // A category of any kind.
 ghost use Rattle.std.specs.Prelude.{◌≡◌, IfOk};
+ghost use Rattle.cap_ops.specs.declared.plans.Kind.TheVariants.{Mat};
 ghost use Rattle.cap_primitives.specs.Given.{from_to};
 ghost use Rattle.cap_ops.specs.Told.{IsArrow};
 
-use crate::combinations::read_entries;
 use crate::faults::LitFault;
 use crate::matrices::read_matrix;
-use crate::objects::{read_dimension, read_list};
-use cap_add_offer::ListOffer;
+use crate::objects::read_dimension;
 use cap_data::{MorData, ObjData};
 use cap_field::Field;
 use cap_laws::CatFault;
-use cap_lincat::LinTable;
 use cap_names::{MorLit, NoMemory, ObjLit, OpId};
 use cap_ops::{Arg, Kind, Objects, Offer, PrimOut};
 use cap_vec_offer::VecOffer;
@@ -19,14 +17,13 @@ use std::alloc::Global;
 use std::marker::Model;
 
 /// The category of a kind.
-#[derive(Drop)]
+#[derive(Debug, Drop)]
 enum Over {
     Matrices(VecOffer),
-    Lists(ListOffer),
 }
 
 /// A category of any kind: its primitives, and the literals of its objects and morphisms. Contracts see it as its label.
-#[derive(Drop)]
+#[derive(Debug, Drop)]
 pub struct AnyCat {
     over: Over,
 }
@@ -40,55 +37,38 @@ impl Model for AnyCat {
 }
 
 impl AnyCat {
-    ghost use Rattle.cap_offer.specs.Labels.{any_offer};
-    ghost use Rattle.cap_offer.specs.Made.{HasTable, IsOver};
+    ghost use Rattle.cap_offer.specs.Labels.{vec, any_offer};
     ghost use Rattle.cap_offer.specs.Literals.{HasObjectForm, HasMorphismForm, Gives, object_literal, morphism_literal};
 
-    /// The category of a kind over a field: of matrices, or the additive closure of a table of that field, which is given exactly there. The kinds of Freyd categories
-    /// and of functor categories have none yet.
-    pub fn new(
-        _alloc: Global,
-        kind: Kind,
-        field: Field,
-        table: Option<LinTable>,
-    ) -> Result<AnyCat, NoMemory>
-        requires { HasTable kind field table }
-        ensures { IfOk result (λ c. IsOver kind field table c) }
+    /// The category of matrices over a field: the kind of additive closures, Freyd categories and functors has none yet.
+    pub fn new(_alloc: Global, _kind: Kind, field: Field) -> Result<AnyCat, NoMemory>
+        requires { _kind ≡ Mat }
+        ensures { IfOk result (λ c. c ≡ vec field) }
     {
-        match (kind, table) {
-            (Kind::Mat, None) => Ok(AnyCat {
-                over: Over::Matrices(VecOffer::new(field)),
-            }),
-            (Kind::Add, Some(table)) => Ok(AnyCat {
-                over: Over::Lists(ListOffer::new(table)),
-            }),
-            _ => unreachable!(),
-        }
+        Ok(AnyCat {
+            over: Over::Matrices(VecOffer::new(field)),
+        })
     }
 
     /// An equal category.
-    pub fn copy(&self, alloc: Global) -> Result<AnyCat, NoMemory>
+    pub fn copy(&self, _alloc: Global) -> Result<AnyCat, NoMemory>
         ensures { IfOk result (λ c. c ≡ self.now) }
     {
         match &self.over {
             Over::Matrices(offer) => Ok(AnyCat {
                 over: Over::Matrices(VecOffer::new(offer.field())),
             }),
-            Over::Lists(offer) => Ok(AnyCat {
-                over: Over::Lists(offer.copy(alloc)?),
-            }),
         }
     }
 
     /// The object that a literal of the kind's form stands for; else its least wrong part, a size past the limits, or the first law that it breaks.
-    pub fn object(&self, alloc: Global, lit: &ObjLit) -> Result<ObjData, LitFault>
+    pub fn object(&self, _alloc: Global, lit: &ObjLit) -> Result<ObjData, LitFault>
         requires { HasObjectForm self.now lit.now }
         ensures gives { Gives (object_literal self.now lit.now) result }
         ensures object { IfOk result (λ x. (any_offer self.now).category.is_object x) }
     {
         match &self.over {
             Over::Matrices(_) => Ok(read_dimension(lit)),
-            Over::Lists(_) => Ok(read_list(alloc, lit)?),
         }
     }
 
@@ -112,7 +92,6 @@ impl AnyCat {
                 let _ = field.prime();
                 read_matrix(alloc, field, a, b, lit)
             }
-            Over::Lists(offer) => read_entries(alloc, offer.table(), a, b, lit),
         }
     }
 }
@@ -132,21 +111,18 @@ impl Offer for AnyCat {
     fn kind(&self) -> Kind {
         match &self.over {
             Over::Matrices(offer) => offer.kind(),
-            Over::Lists(offer) => offer.kind(),
         }
     }
 
     fn field(&self) -> Field {
         match &self.over {
             Over::Matrices(offer) => offer.field(),
-            Over::Lists(offer) => offer.field(),
         }
     }
 
     fn offers(&self, op: OpId) -> Option<u32> {
         match &self.over {
             Over::Matrices(offer) => offer.offers(op),
-            Over::Lists(offer) => offer.offers(op),
         }
     }
 
@@ -159,7 +135,6 @@ impl Offer for AnyCat {
     ) -> Result<PrimOut<ObjData, MorData>, CatFault> {
         match &self.over {
             Over::Matrices(offer) => offer.prim(alloc, op, args, objects),
-            Over::Lists(offer) => offer.prim(alloc, op, args, objects),
         }
     }
 

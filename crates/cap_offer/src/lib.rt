@@ -2,7 +2,6 @@
 #![tactic(auto)]
 
 mod any;
-mod combinations;
 mod faults;
 mod laws;
 mod matrices;
@@ -11,3 +10,4 @@ mod objects;
 pub use any::AnyCat;
 pub use faults::LitFault;
 pub use laws::{law_any_canonical, law_any_of_label, law_any_rules_hold, law_literals_are_one};
+pub use matrices::has_size;

@@ -48,7 +48,7 @@ fn residues(alloc: Global, field: Field, rows: &[Items<EntryLit>]) -> Result<Vec
 }
 
 /// Whether a literal has so many rows of so many entries each; one without rows has them where there are no rows or no columns.
-pub(crate) fn has_size(rows: u32, cols: u32, lit: &MatLit) -> bool
+pub fn has_size(rows: u32, cols: u32, lit: &MatLit) -> bool
     ensures { IsTrue result ↔ HasSize rows cols lit.now }
 {
     let written = lit.rows.as_slice();

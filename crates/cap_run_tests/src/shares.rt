@@ -12,7 +12,7 @@ use std::test::Fail;
 fn what_a_session_adds_stands_in_the_state_at_the_end(rt: HostRuntime) -> Result<(), Fail> {
     let alloc = rt.alloc();
     let field = Field::from_prime(5).ok_or("a prime of the table")?;
-    let desk = OwnDesk::new(Ledger::new(alloc, AnyCat::new(alloc, Kind::Mat, field, None)?));
+    let desk = OwnDesk::new(Ledger::new(alloc, AnyCat::new(alloc, Kind::Mat, field)?));
     let (desk, memory) = Seat::new(alloc, desk, SessionNo(0)).into_parts();
     let mut shared = SharedCategory::open(alloc, desk.into_ledger(), memory, 2)?;
     let mut seat = shared.split().into_seat();

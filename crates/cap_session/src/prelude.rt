@@ -48,10 +48,10 @@ fn make_category<'g, G: Gate>(
 {
     let field = field_over(prime);
     let number = CatNo(course.standing.categories.len() as u8);
-    let ledger = Ledger::new(alloc, AnyCat::new(alloc, Kind::Mat, field, None)?);
+    let ledger = Ledger::new(alloc, AnyCat::new(alloc, Kind::Mat, field)?);
     let desk = Gated::new(OwnDesk::new(ledger), gate, number);
     course.seats.push(Seat::new(alloc, desk, SessionNo(0)))?;
-    let category = AnyCat::new(alloc, Kind::Mat, field, None)?;
+    let category = AnyCat::new(alloc, Kind::Mat, field)?;
     course.standing.categories.push(Made {
         name,
         number,

@@ -5,8 +5,7 @@ ghost use Rattle.cap_data.specs.declared.data.ObjData.TheVariants.{Dim};
 ghost use Rattle.cap_ops.specs.Arrows.{arguments};
 ghost use Rattle.cap_ops.specs.Told.{IsArrow, Known, told_in};
 ghost use Rattle.cap_primitives.specs.Given.{from_to};
-ghost use Rattle.cap_ops.specs.declared.plans.Kind.TheVariants.{Mat};
-ghost use Rattle.cap_offer.specs.Labels.{kind_of, any_offer};
+ghost use Rattle.cap_offer.specs.Labels.{any_offer};
 ghost use Rattle.cap_offer.specs.Literals.{IsInteger, HasIntegers};
 
 use cap_data::{MorData, ObjData};
@@ -23,7 +22,6 @@ pub struct Room {
     pub cat: AnyCat,
     pub objects: Items<ObjData>,
     pub alloc: Global,
-    ghost matrices: { kind_of cat ≡ Mat },
 }
 
 impl Objects<ObjData> for Room {
@@ -47,7 +45,7 @@ pub enum Given<'a> {
 /// The matrices over F_5, with objects of these dimensions.
 pub fn make_room(rt: &impl Abort, alloc: Global, dims: &[u32]) -> Room {
     let field = Field::from_prime(5).expect(rt, "5 is a prime of the table");
-    let cat = AnyCat::new(alloc, Kind::Mat, field, None).expect(rt, "room for the category");
+    let cat = AnyCat::new(alloc, Kind::Mat, field).expect(rt, "room for the category");
     let mut objects = Vec::new(alloc);
     for n in dims {
         objects

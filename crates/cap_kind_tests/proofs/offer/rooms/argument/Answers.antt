@@ -8,7 +8,7 @@ use Rattle.cap_offer.proofs.Known.{object-known, arrow-known, residue-known}
 use Rattle.cap_kind_tests.proofs.offer.rooms.argument.Goals as goal
 
 pub returns-in-Object : goal.returns-in-Object
-returns-in-Object g c = object-known c.args.room.now.cat c.args.room.now.matrices c.args.room.now.objects (record { 0 = c.in-Object.h }) c.dimension.result c.dimension.ensures
+returns-in-Object g c = object-known c.args.room.now.cat c.args.room.now.objects (record { 0 = c.in-Object.h }) c.dimension.result c.dimension.ensures
 
 pub returns-in-Matrix : goal.returns-in-Matrix
 returns-in-Matrix g c =

@@ -1,13 +1,10 @@
 use Rattle.std.proofs.Common.{refl}
 use Rattle.cap_data.specs.declared.data.ObjData.TheVariants.{Dim}
-use Rattle.cap_offer.proofs.Offers.{dimension-object, matrix-form}
+use Rattle.cap_offer.proofs.Offers.{dimension-object}
 use Rattle.cap_kind_tests.proofs.offer.rooms.read.Goals as goal
 
 pub morphism-requires-clause-source : goal.morphism-requires-clause-source
-morphism-requires-clause-source c = dimension-object c.args.room.now.cat c.args.room.now.matrices c.args.rows (Dim c.args.rows) refl
+morphism-requires-clause-source c = dimension-object c.args.room.now.cat c.args.rows (Dim c.args.rows) refl
 
 pub morphism-requires-clause-target : goal.morphism-requires-clause-target
-morphism-requires-clause-target c = dimension-object c.args.room.now.cat c.args.room.now.matrices c.args.cols (Dim c.args.cols) refl
-
-pub morphism-requires-clause-form : goal.morphism-requires-clause-form
-morphism-requires-clause-form c = matrix-form c.args.room.now.cat c.args.room.now.matrices c.args.lit c.requires
+morphism-requires-clause-target c = dimension-object c.args.room.now.cat c.args.cols (Dim c.args.cols) refl

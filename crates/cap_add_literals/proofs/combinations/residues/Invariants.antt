@@ -1,6 +1,6 @@
 use Rattle.std.proofs.Common.{◌≡◌, map, take}
-use Rattle.cap_offer.specs.Combinations.{residue_in}
-use Rattle.cap_offer.proofs.combinations.residues.Given as goal
+use Rattle.cap_add_literals.specs.Combinations.{residue_in}
+use Rattle.cap_add_literals.proofs.combinations.residues.Given as goal
 
 abbrev pub invariant-loop-n : goal.invariant-loop-n
 invariant-loop-n l = l.row.items ≡ map (residue_in l.field) (take l.n-index l.coefficients)

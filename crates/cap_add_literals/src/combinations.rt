@@ -3,17 +3,21 @@ ghost use Rattle.std.specs.Prelude.{◌≡◌, ◌++◌, ◌≤◌, IfOk, map, l
 ghost use Rattle.std.specs.List.{All};
 ghost use Rattle.cap_add_laws.specs.Closure.{AreObjects};
 ghost use Rattle.cap_encoded.specs.OfClosures.{read_list};
-ghost use Rattle.cap_offer.specs.Combinations.{residue_in, residues_of_entry, lists_of};
-ghost use Rattle.cap_offer.specs.Literals.{IsCoefficients, HasCoefficients, HasEntries, Gives, entries_literal, entries_between};
+ghost use Rattle.cap_add_literals.specs.Combinations.{residue_in, residues_of_entry, lists_of};
+ghost use Rattle.cap_offer.specs.Literals.{Gives};
+ghost use Rattle.cap_add_literals.specs.Literals.{IsCoefficients, HasCoefficients, HasEntries, entries_literal, entries_between};
+ghost use Rattle.cap_add_offer.specs.Offer.{list_offer};
+ghost use Rattle.cap_primitives.specs.Given.{from_to};
+ghost use Rattle.cap_ops.specs.Told.{IsArrow};
+ghost use Rattle.cap_lincat.specs.Tables.{table_in};
 
-use crate::faults::LitFault;
-use crate::matrices::has_size;
 use cap_addclosure::{count_within_limits, first_wrong};
 use cap_data::{Entries, MorData, ObjData};
 use cap_field::Field;
 use cap_laws::{CatFault, Table};
 use cap_lincat::LinTable;
 use cap_names::{EntryLit, Items, MatLit, MorLit, NoMemory, TooLarge};
+use cap_offer::{LitFault, has_size};
 use std::alloc::Global;
 
 /// The residue of an integer.
@@ -117,18 +121,20 @@ fn parts(a: &ObjData) -> &[u32]
     }
 }
 
-/// The matrix of combinations between lists that a literal stands for.
-pub(crate) fn read_entries(
+/// The morphism between two lists of objects of the table that a literal stands for; else its least wrong part (0 where it has a wrong number of rows or columns,
+/// else the number of an entry, from 1 and row by row, with a wrong number of coefficients), or a size past the limits.
+pub fn read_entries(
     alloc: Global,
     table: &LinTable,
     a: &ObjData,
     b: &ObjData,
     lit: &MorLit,
 ) -> Result<MorData, LitFault>
-    requires from { AreObjects (⟦<LinTable as Table>⟧.table table.now) (read_list a.now) }
-    requires to { AreObjects (⟦<LinTable as Table>⟧.table table.now) (read_list b.now) }
-    requires entries { HasEntries lit.now }
-    ensures { Gives (entries_between (⟦<LinTable as Table>⟧.table table.now) a.now b.now lit.now) result }
+    requires source { (list_offer (table_in table.now)).category.is_object a.now }
+    requires target { (list_offer (table_in table.now)).category.is_object b.now }
+    requires form { HasEntries lit.now }
+    ensures gives { Gives (entries_between (table_in table.now) a.now b.now lit.now) result }
+    ensures arrow { IfOk result (λ m. IsArrow (list_offer (table_in table.now)).category (from_to a.now b.now m)) }
 {
     match lit {
         MorLit::Rows(matrix) => read_rows(alloc, table, parts(a), parts(b), matrix),

@@ -10,10 +10,11 @@ use Rattle.cap_encoded.proofs.Coefficients.{coefficients-joined}
 use Rattle.cap_data.specs.Cells.{coefficients}
 use Rattle.cap_data.specs.declared.data.MorData.TheVariants.{Entries}
 use Rattle.cap_lincat.specs.Tables.{table_in}
-use Rattle.cap_offer.specs.Combinations.{lists_of}
-use Rattle.cap_offer.specs.Literals.{IsLeast, IsGiven, IsWrongEntry, entries_literal}
-use Rattle.cap_offer.proofs.EntryLiterals.{read-lists, no-wrong, least-wrong, given-entries, matrix-of-entries, table-some}
-use Rattle.cap_offer.proofs.combinations.read_rows.Goals as goal
+use Rattle.cap_add_literals.specs.Combinations.{lists_of}
+use Rattle.cap_offer.specs.Literals.{IsLeast, IsGiven}
+use Rattle.cap_add_literals.specs.Literals.{IsWrongEntry, entries_literal}
+use Rattle.cap_add_literals.proofs.EntryLiterals.{read-lists, no-wrong, least-wrong, given-entries, matrix-of-entries, table-some}
+use Rattle.cap_add_literals.proofs.combinations.read_rows.Goals as goal
 
 many-few : (n a b : ℕ) → n ≡ a * b → a ≤ 2048 → b ≤ 2048 → n ≤ 4194304
 many-few n a b e h k = let most : a * b ≤ 2048 * 2048 = mul-le a b 2048 2048 h k in omega (arith, e, most)

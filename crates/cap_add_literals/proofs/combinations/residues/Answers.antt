@@ -1,8 +1,8 @@
 use Rattle.std.proofs.Common.{rules, ◌≡◌, ℕ, ◌<◌, ◌++◌, ◌+◌, ℤ, pos, List, [], ◌∷◌, length, map, take, get_or, refl, sym, ap, ◌∙◌, FitsSigned, w64, to_z, of_z}
 use Rattle.std.proofs.lemmas.Int.{to_z-of_z}
 use Rattle.std.proofs.lemmas.List.{take_more}
-use Rattle.cap_offer.specs.Combinations.{residue_in}
-use Rattle.cap_offer.proofs.combinations.residues.Goals as goal
+use Rattle.cap_add_literals.specs.Combinations.{residue_in}
+use Rattle.cap_add_literals.proofs.combinations.residues.Goals as goal
 
 map-snoc : (f : ℤ → ℕ) (xs : List ℤ) (x : ℤ) → map f (xs ++ x ∷ []) ≡ map f xs ++ f x ∷ []
 map-snoc f [] x = refl

@@ -27,8 +27,9 @@ use Rattle.cap_addclosure.proofs.OneElement.{width-of-place}
 use Rattle.cap_addclosure.specs.Shapes.{HasWidth, HasWidths, IsFirstWrong}
 use Rattle.cap_addclosure.specs.Sizes.{closure_size}
 use Rattle.cap_offer.proofs.Cells.{length-mapped, mapped-at, no-places, no-place}
-use Rattle.cap_offer.specs.Combinations.{residue_in, residues_of_entry, lists_of}
-use Rattle.cap_offer.specs.Literals.{IsCoefficients, HasCoefficients, HasSize, IsLeast, IsGiven, StandAt, IsWrongEntry, AreResiduesOf, AreResiduesAt, AreEntriesOfLiteral, entries_literal}
+use Rattle.cap_add_literals.specs.Combinations.{residue_in, residues_of_entry, lists_of}
+use Rattle.cap_offer.specs.Literals.{HasSize, IsLeast, IsGiven}
+use Rattle.cap_add_literals.specs.Literals.{IsCoefficients, HasCoefficients, StandAt, IsWrongEntry, AreResiduesOf, AreResiduesAt, AreEntriesOfLiteral, entries_literal}
 use Rattle.cap_offer.specs.Laws.{ReadsOnce}
 
 -- an entry that is coefficients

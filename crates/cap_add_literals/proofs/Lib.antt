@@ -1,0 +1,2 @@
+pub mod EntryLiterals
+pub mod Given
