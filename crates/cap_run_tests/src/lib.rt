@@ -1,14 +1,10 @@
-//! Tests of what sessions run on: keys, states, steps, seats and sessions.
+//! Tests of what sessions run on: keys, states and steps.
 #![tactic(auto)]
 
 #[cfg(test)]
 mod keys;
 #[cfg(test)]
-mod session;
-#[cfg(test)]
 mod settle;
-#[cfg(test)]
-mod shares;
 #[cfg(test)]
 mod steps;
 #[cfg(test)]

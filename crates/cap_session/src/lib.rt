@@ -11,6 +11,8 @@ mod prelude;
 mod reports;
 mod sessions;
 mod shares;
+#[cfg(test)]
+mod tests;
 mod threads;
 mod turn_desk;
 

@@ -5,6 +5,8 @@ mod behind;
 mod rows;
 mod seats;
 mod shared;
+#[cfg(test)]
+mod tests;
 
 pub use behind::Behind;
 pub use rows::{join_row, split_row};

@@ -18,3 +18,6 @@ pub use plain::cap_plain;
 pub use plan::cap_plan;
 pub use program::cap;
 pub use run::text;
+
+#[cfg(test)]
+mod tests;

@@ -4,6 +4,8 @@
 mod events;
 mod log;
 mod replies;
+#[cfg(test)]
+mod tests;
 mod values;
 
 pub use log::log_text;

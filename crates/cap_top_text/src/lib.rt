@@ -6,6 +6,8 @@ mod data;
 mod home;
 mod lines;
 mod numbers;
+#[cfg(test)]
+mod tests;
 mod text;
 mod values;
 

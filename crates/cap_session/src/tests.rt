@@ -1,7 +1,7 @@
+use super::*;
 use cap_check::{built, check};
 use cap_io::{Gate, GatePlace};
 use cap_script::parse;
-use cap_session::*;
 use std::sync::atomic::{AtomicU32, Ordering};
 use std::test::Fail;
 

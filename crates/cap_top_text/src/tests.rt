@@ -1,4 +1,5 @@
 // What no clause says: the text of a small run is written where there is memory.
+use crate::report_text;
 use cap_checked::CheckedObj;
 use cap_data::{MorData, ObjData};
 use cap_field::Field;
@@ -8,7 +9,6 @@ use cap_matrix::Matrix;
 use cap_names::{CatNo, Handle, Items, Name, ObjLit, OpId, SessionNo};
 use cap_ops::{Arrow, Mismatch};
 use cap_report::{Done, History, LineAnswer, LineRefusal, Report, Trace};
-use cap_top_text::report_text;
 use std::alloc::{AllocError, Global};
 use std::process::Abort;
 use std::test::Fail;

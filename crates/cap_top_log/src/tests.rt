@@ -1,4 +1,5 @@
 // What no clause says: the log of a small run is written where there is memory.
+use crate::log_text;
 use cap_checked::CheckedObj;
 use cap_data::{MorData, ObjData};
 use cap_field::Field;
@@ -8,7 +9,6 @@ use cap_matrix::Matrix;
 use cap_names::{CatNo, Handle, Items, MorLit, Name, OpId, RuleNo, SessionNo};
 use cap_ops::{Arg, Arrow, Choice, Key, Out, Plan, PrimOut, Value};
 use cap_report::{History, Report};
-use cap_top_log::log_text;
 use std::alloc::{AllocError, Global};
 use std::process::Abort;
 use std::test::Fail;

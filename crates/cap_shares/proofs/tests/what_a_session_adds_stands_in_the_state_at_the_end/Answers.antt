@@ -3,7 +3,7 @@ use Rattle.cap_offer.specs.Labels.{any_offer}
 use Rattle.cap_store.specs.State.{reply_of}
 use Rattle.cap_turn.specs.Seats.{seen}
 use Rattle.cap_shares.proofs.Growing.{grown-by}
-use Rattle.cap_run_tests.proofs.shares.what_a_session_adds_stands_in_the_state_at_the_end.Goals as goal
+use Rattle.cap_shares.proofs.tests.what_a_session_adds_stands_in_the_state_at_the_end.Goals as goal
 
 pub give-requires-clause-grown : goal.give-requires-clause-grown
 give-requires-clause-grown g c =

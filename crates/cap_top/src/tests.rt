@@ -1,10 +1,10 @@
 mod gates;
 mod scripts;
 
+use super::*;
 use cap_data::{MorData, ObjData};
 use cap_io::{MemSink, MemSource, OpenGate, SureSink, SureSource};
 use cap_report::Report;
-use cap_top::*;
 use std::alloc::Global;
 use std::process::Abort;
 use std::sync::Wait;

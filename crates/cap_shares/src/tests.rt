@@ -1,3 +1,4 @@
+use crate::{SessionSeat, SharedCategory};
 use cap_desk::{Ledger, OwnDesk};
 use cap_field::Field;
 use cap_history::{Event, Reply};
@@ -5,7 +6,6 @@ use cap_names::SessionNo;
 use cap_offer::AnyCat;
 use cap_ops::Kind;
 use cap_seat::Seat;
-use cap_shares::{SessionSeat, SharedCategory};
 use std::test::Fail;
 
 #[test]
